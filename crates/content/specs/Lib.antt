@@ -1,0 +1,4 @@
+pub mod Tags
+pub mod Forms
+pub mod Grammar
+pub mod Values

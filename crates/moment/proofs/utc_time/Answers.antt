@@ -1,0 +1,18 @@
+-- Each answer is the number that was read, tested; what it says of the content follows from that.
+use Rattle.moment.proofs.Readings.{utc-none, utc-some, answers-utc}
+use Rattle.moment.proofs.utc_time.Needs as need
+
+pub returns-in-Break-number : need.returns-in-Break-number
+returns-in-Break-number c =
+    let s = c .args .content .now in
+    let r = c .from-residual .result in
+    let e = utc-none s r (c .in-Break-number .ensures tt) (c .from-residual .ensures) in
+    record { value = e; relation = answers-utc s r e }
+
+pub returns : need.returns
+returns c =
+    let s = c .args .content .now in
+    let r = c .new .result in
+    let z = c .in-Continue-number .ensures tt in
+    let e = utc-some s r (c .in-Continue-number .number) z (c .new .ensures) in
+    record { value = e; relation = answers-utc s r e }
