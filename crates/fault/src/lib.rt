@@ -12,6 +12,7 @@ ghost use mathlib.Core.Path.{_≡_};
 ghost use Rattle.fault.specs.declared.Report.{Report};
 ghost use Rattle.fault.specs.Faults.{elementReport, setReport};
 ghost use Rattle.fault.specs.Numbers.{numberOf, wordOf};
+use std::fmt;
 
 // A rule that a call can find broken.
 #[derive(Clone, Copy, PartialEq, Eq, Debug)]
@@ -137,6 +138,37 @@ pub enum Breach {
     Oid,
     Ia5String,
     Time,
+}
+
+impl Breach {
+    // The rule in words, for whoever reads a message.
+    fn message(&self) -> &'static str {
+        match self {
+            Breach::NoTag => "an element begins with a tag, and no octet stands here",
+            Breach::LengthCut => "the octets end inside the length",
+            Breach::LengthForm =>
+                "a length begins with an octet below 80, with 81 or with 82 (hexadecimal)",
+            Breach::LengthNotShortest => "a length is written in its shortest form",
+            Breach::ContentCut => "the octets end inside the content",
+            Breach::Boolean => "a BOOLEAN is one octet, 00 or FF",
+            Breach::Integer =>
+                "an INTEGER has at least one octet, and none in front that only repeats the sign",
+            Breach::BitString =>
+                "a BIT STRING begins with its count of unused bits, 0 to 7, and these bits are zero",
+            Breach::Null => "a NULL is empty",
+            Breach::Oid =>
+                "an OBJECT IDENTIFIER ends with an octet below 80, and no number in it begins with 80",
+            Breach::Ia5String => "each octet of an IA5String is below 80",
+            Breach::Time =>
+                "a time is YYMMDDhhmmssZ (UTCTime) or YYYYMMDDhhmmssZ (GeneralizedTime) of a true date",
+        }
+    }
+}
+
+pub impl fmt::Display for Breach as BreachDisplay {
+    fn fmt<W: fmt::Write>(&self, f: &mut fmt::Formatter<W>) -> fmt::Result {
+        f.write_str(self.message())
+    }
 }
 
 // Octets that are no element, with the offset of the tag.

@@ -1,0 +1,29 @@
+-- The lines that calls of a log answer. Assumes nothing.
+use Prim.Native.Nat.{ℕ}
+use mathlib.Core.List.{List, [], _∷_, _++_}
+use lib.Chars.{codes}
+use lib.ListN.{length}
+use Rattle.std.specs.Written.{decimal}
+use Rattle.std.specs.declared.result.Result.{Result}
+use Rattle.std.specs.declared.result.Result.the-variants.{Ok, Err}
+use Rattle.fault.specs.declared.ElementFault.{ElementFault}
+use Rattle.fault.specs.Numbers.{numberOf}
+use Rattle.fault.specs.Faults.{elementReport}
+use Rattle.hex.specs.Digits.{hexText}
+use Rattle.element.specs.Reading.{Seen, Octets}
+
+-- where octets stand and how many they are, PLACE+LENGTH, before some other text
+abbrev pub spot : ℕ → ℕ → List ℕ → List ℕ
+spot place size more = decimal place ++ (codes "+" ++ (decimal size ++ more))
+
+-- the number of a fault and its place
+abbrev pub faultLine : ℕ → ℕ → List ℕ
+faultLine number place = codes "element fault " ++ (decimal number ++ (codes " at " ++ (decimal place ++ codes "\n")))
+
+-- `element ok TAG CONTENT REST`, or `element fault N at PLACE`
+abbrev pub elementAnswer : Result (Seen × Octets) ElementFault → List ℕ
+elementAnswer (Ok p) =
+    codes "element ok " ++ (hexText (p .0 .tag ∷ []) ++ (codes " "
+    ++ spot (p .0 .content-place) (length (p .0 .content)) (codes " "
+    ++ spot (p .1 .place) (length (p .1 .octets)) (codes "\n"))))
+elementAnswer (Err f) = faultLine (numberOf (elementReport f .rule)) (elementReport f .place)

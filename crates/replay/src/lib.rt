@@ -1,0 +1,62 @@
+// What the calls of a log answer, as lines of text.
+//
+// Each `.._answer` makes one call and gives its answer with a newline. The text is a definition in
+// specs/Answers.antt over the definition of the call's result, and each function promises just that text.
+// It rests on `element` for the reading and on `hex` for octets.
+ghost use mathlib.Core.Path.{_≡_};
+ghost use mathlib.Core.List.{[], _∷_};
+ghost use Rattle.std.specs.Of.String.{string-bytes};
+ghost use Rattle.std.specs.Vec.{made};
+ghost use Rattle.std.specs.declared.result.Result.the-variants.{Ok};
+ghost use Rattle.hex.specs.Digits.{hexText};
+ghost use Rattle.element.specs.Reading.{seen, octetsOf, readOf};
+ghost use Rattle.replay.specs.Answers.{faultLine, elementAnswer};
+use element::Element;
+use element::Part;
+use element::read_first;
+use fault::ElementReports;
+use fault::Fault;
+use hex::push_octets;
+use std::alloc::AllocError;
+use std::alloc::Global;
+
+// An octet as two hexadecimal digits.
+fn octet_text(heap: Global, octet: u8) -> Result<String, AllocError>
+    ensures { λ r. ⌜ made r (λ s. string-bytes s ≡ hexText (octet ∷ [])) ⌝ }
+{
+    let mut text = String::new(heap);
+    push_octets(&mut text, &[octet])?;
+    Ok(text)
+}
+
+// The answer of a call that read an element.
+fn found_answer(heap: Global, element: &Element<'_>, rest: &Part<'_>) -> Result<String, AllocError>
+    ensures { λ r. ⌜ made r (λ s. string-bytes s ≡ elementAnswer (Ok (seen (now (element .entry)), octetsOf (now (rest .entry))))) ⌝ }
+{
+    let tag = octet_text(heap, element.tag)?;
+    let place = element.content.place;
+    let size = element.content.octets.len();
+    let after = rest.place;
+    let left = rest.octets.len();
+    format!(heap, "element ok {tag} {place}+{size} {after}+{left}\n")
+}
+
+// The answer of a call that found no element, by the number of the fault and its place.
+fn fault_answer(heap: Global, number: u8, place: usize) -> Result<String, AllocError>
+    ensures { λ r. ⌜ made r (λ s. string-bytes s ≡ faultLine number place) ⌝ }
+{
+    format!(heap, "element fault {number} at {place}\n")
+}
+
+// The answer of `element OCTETS`.
+pub fn element_answer(heap: Global, octets: &[u8]) -> Result<String, AllocError>
+    ensures { λ r. ⌜ made r (λ s. string-bytes s ≡ elementAnswer (readOf (now (octets .entry)) 0)) ⌝ }
+{
+    match read_first(octets) {
+        Ok((element, rest)) => found_answer(heap, &element, &rest),
+        Err(fault) => {
+            let report = fault.report();
+            fault_answer(heap, report.rule.number(), report.place)
+        },
+    }
+}
