@@ -105,7 +105,11 @@ fn push_integer(
     all: bool,
 ) -> Result<(), AllocError> {
     if value.octets.len() > 8 {
-        text.push_str(if value.negative { "(negative) 0x" } else { "0x" })?;
+        text.push_str(if value.negative {
+            "(negative) 0x"
+        } else {
+            "0x"
+        })?;
         return push_hex(heap, text, value.octets, all);
     }
     let size = magnitude(value.octets, value.negative);
@@ -126,7 +130,11 @@ fn push_bits(
     all: bool,
 ) -> Result<(), AllocError> {
     push_hex(heap, text, value.octets, all)?;
-    let bits = value.octets.len().wrapping_mul(8).wrapping_sub(value.unused as usize);
+    let bits = value
+        .octets
+        .len()
+        .wrapping_mul(8)
+        .wrapping_sub(value.unused as usize);
     let note = format!(heap, " ({bits} bits)")?;
     text.push_str(note.as_str())
 }
@@ -139,7 +147,9 @@ fn arcs(heap: Global, octets: &[u8]) -> Result<Option<Vec<u128>>, AllocError> {
         if value > u128::MAX / 128 {
             return Ok(None);
         }
-        value = value.wrapping_mul(128).wrapping_add(u128::from(*octet % 128));
+        value = value
+            .wrapping_mul(128)
+            .wrapping_add(u128::from(*octet % 128));
         if *octet < 128 {
             numbers.push(value)?;
             value = 0;
@@ -236,7 +246,11 @@ fn push_oid(heap: Global, text: &mut String, octets: &[u8], all: bool) -> Result
 // Appends a text in quotes, with every octet that is no printable ASCII as a backslash and two digits.
 fn push_text(heap: Global, text: &mut String, octets: &[u8], all: bool) -> Result<(), AllocError> {
     text.push('"')?;
-    let shown = if all { octets.len() } else { octets.len().min(SHOWN) };
+    let shown = if all {
+        octets.len()
+    } else {
+        octets.len().min(SHOWN)
+    };
     for octet in &octets[0..shown] {
         if *octet >= 0x20 && *octet < 0x7f && *octet != b'"' && *octet != b'\\' {
             text.push(*octet as char)?;
@@ -280,7 +294,13 @@ fn is_printable(octets: &[u8]) -> bool {
 }
 
 // Appends the octets of a tag without a typed value: in hexadecimal, and as text too where they are such.
-fn push_other(heap: Global, text: &mut String, tag: u8, octets: &[u8], all: bool) -> Result<(), AllocError> {
+fn push_other(
+    heap: Global,
+    text: &mut String,
+    tag: u8,
+    octets: &[u8],
+    all: bool,
+) -> Result<(), AllocError> {
     if tag == 0x0c || tag == 0x13 {
         return push_text(heap, text, octets, all);
     }
@@ -294,7 +314,13 @@ fn push_other(heap: Global, text: &mut String, tag: u8, octets: &[u8], all: bool
 
 // Appends the value of a content. The octets have the form of their tag; where a typed value has none, they
 // are shown as they stand.
-fn push_value(heap: Global, text: &mut String, tag: u8, octets: &[u8], all: bool) -> Result<(), AllocError> {
+fn push_value(
+    heap: Global,
+    text: &mut String,
+    tag: u8,
+    octets: &[u8],
+    all: bool,
+) -> Result<(), AllocError> {
     match kind_of(tag) {
         Kind::Boolean => match read_boolean(octets) {
             Some(true) => text.push_str("TRUE"),
@@ -318,7 +344,12 @@ fn push_value(heap: Global, text: &mut String, tag: u8, octets: &[u8], all: bool
 }
 
 // Appends the moment that a time says.
-fn push_time(heap: Global, text: &mut String, time: Option<Moment>, octets: &[u8]) -> Result<(), AllocError> {
+fn push_time(
+    heap: Global,
+    text: &mut String,
+    time: Option<Moment>,
+    octets: &[u8],
+) -> Result<(), AllocError> {
     match time {
         Some(moment) => push_moment(heap, text, moment),
         None => push_hex(heap, text, octets, false),
@@ -327,7 +358,12 @@ fn push_time(heap: Global, text: &mut String, time: Option<Moment>, octets: &[u8
 
 // Appends the line of an element, with its newline: offset, indentation, the tag's name, the length and the
 // value. With `all` no value is cut.
-pub fn push_line(heap: Global, text: &mut String, node: &Node<'_>, all: bool) -> Result<(), AllocError> {
+pub fn push_line(
+    heap: Global,
+    text: &mut String,
+    node: &Node<'_>,
+    all: bool,
+) -> Result<(), AllocError> {
     let place = node.element.place;
     let offset = format!(heap, "{place:>7}  ")?;
     text.push_str(offset.as_str())?;

@@ -20,9 +20,9 @@ length-span : (file : List ℕ) (from to : ℕ) → to ≤ length file → lengt
 length-span file from to h = length-take-le (to - from) (drop from file) (simp length-drop (omega arith))
 
 visited-here :
-  (file : List ℕ) (from limit to : ℕ) (e : Seen) (q : Octets) → limit ≤ length file → from < limit
-  → Ok (e, q) ≡ readOf (span file from limit) from → Parsed (span file from limit) from (Ok (e, q))
-  → (to ≡ e .content-place) ⊎ (to ≡ q .place) → Visited file from to e
+    (file : List ℕ) (from limit to : ℕ) (e : Seen) (q : Octets) → limit ≤ length file → from < limit
+    → Ok (e, q) ≡ readOf (span file from limit) from → Parsed (span file from limit) from (Ok (e, q))
+    → (to ≡ e .content-place) ⊎ (to ≡ q .place) → Visited file from to e
 visited-here file from limit to e q inside some read p way =
     let n = length-span file from limit inside in
     let i = p .1 in
@@ -41,23 +41,23 @@ visited-here file from limit to e q inside some read p way =
 
 -- the same where the walk's file and place are known by another name
 pub visited :
-  (file g : List ℕ) (from p limit to : ℕ) (e : Seen) (q : Octets) → g ≡ file → p ≡ from → limit ≤ length g → p < limit
-  → Ok (e, q) ≡ readOf (span g p limit) p → Parsed (span g p limit) p (Ok (e, q))
-  → (to ≡ e .content-place) ⊎ (to ≡ q .place) → Visited file from to e
+    (file g : List ℕ) (from p limit to : ℕ) (e : Seen) (q : Octets) → g ≡ file → p ≡ from → limit ≤ length g → p < limit
+    → Ok (e, q) ≡ readOf (span g p limit) p → Parsed (span g p limit) p (Ok (e, q))
+    → (to ≡ e .content-place) ⊎ (to ≡ q .place) → Visited file from to e
 visited file g from p limit to e q same at inside some read parsed way =
     subst (λ (x : ℕ). Visited file x to e) at
     (subst (λ (x : List ℕ). Visited x p to e) same (visited-here g p limit to e q inside some read parsed way))
 
 pub stopped :
-  (file g : List ℕ) (from p limit to : ℕ) (f : ElementFault) → g ≡ file → p ≡ from
-  → Err f ≡ readOf (span g p limit) p → Parsed (span g p limit) p (Err f) → Stepped file from to (Err (Fault f))
+    (file g : List ℕ) (from p limit to : ℕ) (f : ElementFault) → g ≡ file → p ≡ from
+    → Err f ≡ readOf (span g p limit) p → Parsed (span g p limit) p (Err f) → Stepped file from to (Err (Fault f))
 stopped file g from p limit to f same at read parsed =
     subst (λ (x : ℕ). Stepped file x to (Err (Fault f))) at
     (subst (λ (x : List ℕ). Stepped x p to (Err (Fault f))) same (parsed .0, (limit, sym read)))
 
 -- how many elements are open after one that has elements inside, and after one that has none
 pub opened :
-  (t b : Bool) (after before depth : ℕ) → b ≡ t → b ≡ true → after ≡ before + 1 → depth ≡ before → after ≡ depth + cond t 1 0
+    (t b : Bool) (after before depth : ℕ) → b ≡ t → b ≡ true → after ≡ before + 1 → depth ≡ before → after ≡ depth + cond t 1 0
 opened true b after before depth e h a d = omega arith
 opened false b after before depth e h a d = let z : _≡_ {A = ℕ} 0 1 = cc in absurd (omega arith)
 

@@ -219,7 +219,11 @@ fn run_call(
 }
 
 // Runs a line of a log.
-fn run_line(rt: &LibcRuntime, line: &[u8], text: &mut String) -> Result<Result<(), Why>, AllocError> {
+fn run_line(
+    rt: &LibcRuntime,
+    line: &[u8],
+    text: &mut String,
+) -> Result<Result<(), Why>, AllocError> {
     match read_line(line) {
         Ok(Line::Nothing) => Ok(Ok(())),
         Ok(Line::Call(call)) => run_call(rt, call, text),
@@ -261,10 +265,16 @@ fn run_words(rt: &LibcRuntime, words: &[String]) -> Result<(), Failure> {
             Ok(())
         },
         [word, path] if *word == "dump" => run_dump(rt, path.as_str(), Detail::Cut),
-        [word, how, path] if *word == "dump" && *how == "--all" =>
-            run_dump(rt, path.as_str(), Detail::All),
-        [word, how, path] if *word == "dump" && *how == "--quiet" =>
-            run_dump(rt, path.as_str(), Detail::Count),
+        [word, how, path] if *word == "dump" && *how == "--all" => run_dump(
+            rt,
+            path.as_str(),
+            Detail::All,
+        ),
+        [word, how, path] if *word == "dump" && *how == "--quiet" => run_dump(
+            rt,
+            path.as_str(),
+            Detail::Count,
+        ),
         [word, path] if *word == "replay" => run_replay(rt, path.as_str()),
         _ => misused(rt, "these words are no command"),
     }

@@ -30,16 +30,16 @@ returns c =
       file = elim (c .if-is-constructed .came) [
         | then-is-constructed·in-Continue-push w ↦ ap (λ (x : Walk). now (x .file)) (w .self-is) ∙ c .leave .ensures .file
         | else-is-constructed w ↦ ap (λ (x : Walk). now (x .file)) (w .self-is) ∙ c .leave .ensures .file
-        ];
+      ];
       value = visited _ _ _ _ (c .limit-limit .result) _ _ _ (c .leave .ensures .file) (c .leave .ensures .place) (c .limit-limit .ensures .bound) (c .if-place-limit .left) (r .value) (r .grammar)
-        (elim (c .if-is-constructed .came) [
-        | then-is-constructed·in-Continue-push w ↦ inl (ap (λ (x : Walk). x .place) (w .self-is))
-        | else-is-constructed w ↦ inr (ap (λ (x : Walk). x .place) (w .self-is))
-        ]);
+          (elim (c .if-is-constructed .came) [
+            | then-is-constructed·in-Continue-push w ↦ inl (ap (λ (x : Walk). x .place) (w .self-is))
+            | else-is-constructed w ↦ inr (ap (λ (x : Walk). x .place) (w .self-is))
+          ]);
       depth = elim (c .if-is-constructed .came) [
         | then-is-constructed·in-Continue-push w ↦
-          opened _ _ _ _ _ (c .is-constructed .ensures) (w .if-is-constructed .taken) (ap (λ (x : Walk). vec-len (x .ends)) (w .self-is) ∙ w .in-Continue-push .ensures tt .len) (c .len-depth .ensures)
+            opened _ _ _ _ _ (c .is-constructed .ensures) (w .if-is-constructed .taken) (ap (λ (x : Walk). vec-len (x .ends)) (w .self-is) ∙ w .in-Continue-push .ensures tt .len) (c .len-depth .ensures)
         | else-is-constructed w ↦
-          passed _ _ _ _ _ (c .is-constructed .ensures) (w .if-is-constructed .left) (ap (λ (x : Walk). vec-len (x .ends)) (w .self-is)) (c .len-depth .ensures)
-        ];
+            passed _ _ _ _ _ (c .is-constructed .ensures) (w .if-is-constructed .left) (ap (λ (x : Walk). vec-len (x .ends)) (w .self-is)) (c .len-depth .ensures)
+      ];
     }
