@@ -30,7 +30,7 @@ pub const SHOWN: usize = 128;
 pub const DEEPEST: usize = 32;
 
 // The name of a tag that has one.
-pub fn tag_name(tag: u8) -> Option<&'static str> {
+fn tag_name(tag: u8) -> Option<&'static str> {
     match tag {
         0x01 => Some("BOOLEAN"),
         0x02 => Some("INTEGER"),
@@ -183,45 +183,45 @@ fn dotted(heap: Global, octets: &[u8]) -> Result<Option<String>, AllocError> {
 }
 
 // What the identifiers that RPKI files have are called.
-fn oid_name(dotted: &str) -> Option<&'static str> {
-    match dotted {
-        "1.2.840.113549.1.1.1" => Some("rsaEncryption"),
-        "1.2.840.113549.1.1.11" => Some("sha256WithRSAEncryption"),
-        "1.2.840.113549.1.7.2" => Some("signedData"),
-        "1.2.840.113549.1.9.3" => Some("contentType"),
-        "1.2.840.113549.1.9.4" => Some("messageDigest"),
-        "1.2.840.113549.1.9.5" => Some("signingTime"),
-        "1.2.840.113549.1.9.16.1.24" => Some("routeOriginAuthz"),
-        "1.2.840.113549.1.9.16.1.26" => Some("rpkiManifest"),
-        "2.16.840.1.101.3.4.2.1" => Some("sha256"),
-        "2.5.4.3" => Some("commonName"),
-        "2.5.4.5" => Some("serialNumber"),
-        _ => extension_name(dotted),
-    }
-}
+const NAMES: [(&str, &str); 28] = [
+    ("1.2.840.113549.1.1.1", "rsaEncryption"),
+    ("1.2.840.113549.1.1.11", "sha256WithRSAEncryption"),
+    ("1.2.840.113549.1.7.2", "signedData"),
+    ("1.2.840.113549.1.9.3", "contentType"),
+    ("1.2.840.113549.1.9.4", "messageDigest"),
+    ("1.2.840.113549.1.9.5", "signingTime"),
+    ("1.2.840.113549.1.9.16.1.24", "routeOriginAuthz"),
+    ("1.2.840.113549.1.9.16.1.26", "rpkiManifest"),
+    ("2.16.840.1.101.3.4.2.1", "sha256"),
+    ("2.5.4.3", "commonName"),
+    ("2.5.4.5", "serialNumber"),
+    ("2.5.29.14", "subjectKeyIdentifier"),
+    ("2.5.29.15", "keyUsage"),
+    ("2.5.29.19", "basicConstraints"),
+    ("2.5.29.20", "cRLNumber"),
+    ("2.5.29.31", "cRLDistributionPoints"),
+    ("2.5.29.32", "certificatePolicies"),
+    ("2.5.29.35", "authorityKeyIdentifier"),
+    ("1.3.6.1.5.5.7.1.1", "authorityInfoAccess"),
+    ("1.3.6.1.5.5.7.1.7", "ipAddrBlocks"),
+    ("1.3.6.1.5.5.7.1.8", "autonomousSysIds"),
+    ("1.3.6.1.5.5.7.1.11", "subjectInfoAccess"),
+    ("1.3.6.1.5.5.7.14.2", "ipAddr-asNumber"),
+    ("1.3.6.1.5.5.7.48.2", "caIssuers"),
+    ("1.3.6.1.5.5.7.48.5", "caRepository"),
+    ("1.3.6.1.5.5.7.48.10", "rpkiManifest"),
+    ("1.3.6.1.5.5.7.48.11", "signedObject"),
+    ("1.3.6.1.5.5.7.48.13", "rpkiNotify"),
+];
 
-// The same of extensions and of what stands in them.
-fn extension_name(dotted: &str) -> Option<&'static str> {
-    match dotted {
-        "2.5.29.14" => Some("subjectKeyIdentifier"),
-        "2.5.29.15" => Some("keyUsage"),
-        "2.5.29.19" => Some("basicConstraints"),
-        "2.5.29.20" => Some("cRLNumber"),
-        "2.5.29.31" => Some("cRLDistributionPoints"),
-        "2.5.29.32" => Some("certificatePolicies"),
-        "2.5.29.35" => Some("authorityKeyIdentifier"),
-        "1.3.6.1.5.5.7.1.1" => Some("authorityInfoAccess"),
-        "1.3.6.1.5.5.7.1.7" => Some("ipAddrBlocks"),
-        "1.3.6.1.5.5.7.1.8" => Some("autonomousSysIds"),
-        "1.3.6.1.5.5.7.1.11" => Some("subjectInfoAccess"),
-        "1.3.6.1.5.5.7.14.2" => Some("ipAddr-asNumber"),
-        "1.3.6.1.5.5.7.48.2" => Some("caIssuers"),
-        "1.3.6.1.5.5.7.48.5" => Some("caRepository"),
-        "1.3.6.1.5.5.7.48.10" => Some("rpkiManifest"),
-        "1.3.6.1.5.5.7.48.11" => Some("signedObject"),
-        "1.3.6.1.5.5.7.48.13" => Some("rpkiNotify"),
-        _ => None,
+// The name of an identifier in dotted form, where it has one.
+fn oid_name(dotted: &str) -> Option<&'static str> {
+    for (form, name) in NAMES.iter() {
+        if *form == dotted {
+            return Some(*name);
+        }
     }
+    None
 }
 
 // Appends an OBJECT IDENTIFIER: in dotted form with its name, or in hexadecimal where a number is too long.

@@ -75,7 +75,7 @@ impl Rule {
 }
 
 // A layer of reading, from the single element up to whole files.
-#[derive(Clone, Copy, PartialEq, Eq, Debug)]
+#[derive(Clone, Copy, PartialEq, Eq)]
 pub enum Layer {
     Element,
     Set,
@@ -102,7 +102,7 @@ impl Layer {
 }
 
 // What every fault of reading says in the end: the rule, the offset in the file, and the innermost layer.
-#[derive(Clone, Copy, PartialEq, Eq, Debug)]
+#[derive(Clone, Copy)]
 pub struct Report {
     pub rule: Rule,
     pub place: usize,
@@ -119,7 +119,7 @@ pub trait Fault {
 
 // The way in which octets are no element. All are breaches of one rule, the form of an element, and
 // the word tells the reader of a message which part of it.
-#[derive(Clone, Copy, PartialEq, Eq, Debug)]
+#[derive(Clone, Copy, PartialEq, Eq)]
 pub enum Breach {
     // no octet stands there
     NoTag,
@@ -172,7 +172,7 @@ pub impl fmt::Display for Breach as BreachDisplay {
 }
 
 // Octets that are no element, with the offset of the tag.
-#[derive(Clone, Copy, PartialEq, Eq, Debug)]
+#[derive(Clone, Copy)]
 pub struct ElementFault {
     pub breach: Breach,
     pub place: usize,
@@ -191,7 +191,7 @@ pub impl Fault for ElementFault as ElementReports {
 }
 
 // A fault in a set of resources: one of an element in it, or a rule of its own.
-#[derive(Clone, Copy, PartialEq, Eq, Debug)]
+#[derive(Clone, Copy)]
 pub enum SetFault {
     Element(ElementFault),
     Own { rule: Rule, place: usize },

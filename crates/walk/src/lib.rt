@@ -6,6 +6,7 @@
 // nesting takes room on the heap, never on the stack. It rests on `element`.
 ghost use mathlib.Core.Path.{_≡_};
 ghost use mathlib.Core.Bool.{cond};
+ghost use mathlib.Core.List.{[]};
 ghost use Prim.Native.Nat.{_+_, _-_, _≤_, _<_};
 ghost use lib.ListN.{length, getD};
 ghost use Rattle.std.specs.Of.Vec.{vec-items, vec-len};
@@ -67,7 +68,10 @@ pub fn is_constructed(tag: u8) -> bool
 
 impl<'a> Walk<'a> {
     // The walk over a file, before its first element.
-    pub fn new(heap: Global, file: &'a [u8]) -> Walk<'a> {
+    pub fn new(heap: Global, file: &'a [u8]) -> Walk<'a>
+        ensures file { λ r. ⌜ now (r .file) ≡ now (file .entry) ⌝ }
+        ensures place { λ r. ⌜ (r .place ≡ 0) × (vec-items (r .ends) ≡ []) ⌝ }
+    {
         Walk {
             file,
             place: 0,
