@@ -8,7 +8,8 @@ ghost use Rattle.std.specs.Vec.{made};
 ghost use Rattle.fault.specs.declared.Rule.{Rule};
 ghost use Rattle.fault.specs.declared.Layer.{Layer};
 ghost use Rattle.fault.specs.declared.Report.{Report};
-ghost use Rattle.fault.specs.Faults.{elementReport};
+ghost use Rattle.fault.specs.Faults.{elementReport, setReport};
+ghost use Rattle.fault.specs.declared.Layer.the-variants.{Set};
 ghost use Rattle.element.specs.Reading.{Placed, octetsOf};
 ghost use Rattle.layout.specs.Expecting.{partOf, expectOf, endOf, told-by};
 use element::Element;
@@ -16,6 +17,7 @@ use element::Part;
 use element::read;
 use fault::ElementFault;
 use fault::Rule;
+use fault::SetFault;
 
 // The fault type of a layer: what it reports, and how its own faults and those of an element are made.
 pub trait LayerFault: Sized {
@@ -63,5 +65,19 @@ pub fn end<F: LayerFault>(rest: Part<'_>) -> Result<(), F>
     match read(rest) {
         Err(fault) => Err(F::of_element(fault)),
         Ok((element, _)) => Err(F::own(Rule::Structure, element.place)),
+    }
+}
+
+pub impl LayerFault for SetFault as SetLayer {
+    ghost told = { setReport };
+
+    ghost layer = { Set };
+
+    fn of_element(e: ElementFault) -> SetFault {
+        SetFault::Element(e)
+    }
+
+    fn own(rule: Rule, place: usize) -> SetFault {
+        SetFault::Own { rule, place }
     }
 }
