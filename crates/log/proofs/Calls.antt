@@ -1,6 +1,6 @@
 -- A line says a call exactly where it is that call's text. Assumes nothing.
 use mathlib.Core.Path.{_≡_, refl, sym, ap, subst, _∙_}
-use mathlib.Core.List.{List, [], _∷_, _++_}
+use mathlib.Core.List.{List, [], _∷_, _++_, append-assoc}
 use mathlib.Core.Bool.{Bool, true, false, cond, not, _&&_}
 use mathlib.Core.Logic.{_⊎_, inl, inr}
 use Prim.Native.Nat.{ℕ, _%_, _<_}
@@ -21,11 +21,11 @@ use Rattle.std.proofs.shelf.Lists.{append-nil}
 use Rattle.hex.specs.Digits.{unhex, allDigits}
 use Rattle.hex.proofs.Texts.{reads}
 use Rattle.log.specs.declared.Why.{Why}
-use Rattle.log.specs.declared.Why.the-variants.{CarriageReturn, EmptyWord, UnknownCall, MissingWord, ExtraWord, OddDigits, NoDigit, EmptyPath}
+use Rattle.log.specs.declared.Why.the-variants.{CarriageReturn, EmptyWord, UnknownCall, MissingWord, ExtraWord, NoOracle, OddDigits, NoDigit, EmptyPath}
 use Rattle.log.specs.declared.Name.{Name}
-use Rattle.log.specs.declared.Name.the-variants.{Element as Element·name}
+use Rattle.log.specs.declared.Name.the-variants.{Element as Element·name, Digest as Digest·name, Verdict as Verdict·name}
 use Rattle.log.specs.Words.{wordsOf, spaced, lacking, takeWord}
-use Rattle.log.specs.Lines.{Said, digits, path, Asked, element, Told, nothing, call, andThen, stripped, digitsOf, pathOf, sortOf, octetsOf, argumentOf, spelt, calls, named, nameOf, argumentsOf, callOf, ended, wholeOf, silent, lineOf, written, Lawful, LawfulCall, callWords, CallLine, ReadsCalls, ElementLine, ReadsElements}
+use Rattle.log.specs.Lines.{Said, digits, path, Source, scheme, book, Asked, element, digest, verdict, Told, nothing, call, andThen, stripped, digitsOf, pathOf, sortOf, octetsOf, argumentOf, sourceOf, oracleOf, verdictOf, spelt, calls, named, nameOf, argumentsOf, callOf, ended, wholeOf, silent, lineOf, written, Lawful, LawfulSource, LawfulCall, sourceWords, callWords, CallLine, ReadsCalls, ElementLine, ReadsElements}
 use Rattle.log.proofs.Pieces.{spaced-words, spaceless-words, words-spaced, stripped-inv}
 
 -- two answers that differ
@@ -114,6 +114,43 @@ argument-written : (a : Said) (ws : Words-left) → Lawful a → argumentOf (wri
 argument-written (digits d) ws h = ap (with-argument ws) (octets-written (digits d) h)
 argument-written (path p) ws h = ap (with-argument ws) (octets-written (path p) h)
 
+-- what an oracle took
+source-inv :
+    (w : List ℕ) (ws : Words-left) (p : Source × Words-left) → sourceOf w ws ≡ Ok p → (w ∷ ws ≡ sourceWords (p .0) ++ p .1) × LawfulSource (p .0)
+source-inv w ws p h =
+    let booked : Result (Source × Words-left) Why = andThen (argumentOf ws) (λ q. Ok (book (q .0), q .1)) in
+    let other : Result (Source × Words-left) Why = cond (sameBytes w (codes "book")) booked (Err NoOracle) in
+    elim (cases-bool (sameBytes w (codes "scheme"))) [
+      | inl e ↦
+          let g : Ok (scheme, ws) ≡ Ok p = sym (ap (λ (b : Bool). cond b (Ok (scheme, ws)) other) e) ∙ h in
+          let same : (scheme, ws) ≡ p = cc in
+          subst (λ (x : Source × Words-left). (w ∷ ws ≡ sourceWords (x .0) ++ x .1) × LawfulSource (x .0)) same
+          (ap (λ (v : List ℕ). v ∷ ws) (sameBytes-decides w (codes "scheme") .0 e), tt)
+      | inr e ↦
+          let f : other ≡ Ok p = sym (ap (λ (b : Bool). cond b (Ok (scheme, ws)) other) e) ∙ h in
+          elim (cases-bool (sameBytes w (codes "book"))) [
+            | inl t ↦
+                let g : booked ≡ Ok p = sym (ap (λ (b : Bool). cond b booked (Err NoOracle)) t) ∙ f in
+                let a = then-inv (argumentOf ws) (λ q. Ok (book (q .0), q .1)) p g in
+                let k : Ok (book (a .0 .0), a .0 .1) ≡ Ok p = a .2 in
+                let same : (book (a .0 .0), a .0 .1) ≡ p = cc in
+                let i : (ws ≡ written (a .0 .0) ∷ a .0 .1) × Lawful (a .0 .0) = argument-inv ws (a .0) (a .1) in
+                subst (λ (x : Source × Words-left). (w ∷ ws ≡ sourceWords (x .0) ++ x .1) × LawfulSource (x .0)) same
+                (ap (λ (v : List ℕ). v ∷ ws) (sameBytes-decides w (codes "book") .0 t) ∙ ap (λ (l : Words-left). codes "book" ∷ l) (i .0), i .1)
+            | inr t ↦ clash p NoOracle (sym (ap (λ (b : Bool). cond b booked (Err NoOracle)) t) ∙ f)
+          ]
+    ]
+
+oracle-inv : (ws : Words-left) (p : Source × Words-left) → oracleOf ws ≡ Ok p → (ws ≡ sourceWords (p .0) ++ p .1) × LawfulSource (p .0)
+oracle-inv ws p h =
+    let t = then-inv (takeWord ws) (λ q. sourceOf (q .0) (q .1)) p h in
+    let f = source-inv (t .0 .0) (t .0 .1) p (t .2) in
+    (word-inv ws (t .0) (t .1) ∙ f .0, f .1)
+
+oracle-written : (o : Source) (ws : Words-left) → LawfulSource o → oracleOf (sourceWords o ++ ws) ≡ Ok (o, ws)
+oracle-written scheme ws h = refl
+oracle-written (book a) ws h = ap (λ (r : Result (Said × Words-left) Why). andThen r (λ p. Ok (book (p .0), p .1))) (argument-written a ws h)
+
 -- what each call took: a clause for each
 abbrev Took : Name → Words-left → Asked × Words-left → Type 0
 Took n ws p = (spelt n ∷ ws ≡ callWords (p .0) ++ p .1) × LawfulCall (p .0)
@@ -125,6 +162,37 @@ arguments-inv Element·name ws p h =
     let e : (element (t .0 .0), t .0 .1) ≡ p = cc in
     let f : (ws ≡ written (t .0 .0) ∷ t .0 .1) × Lawful (t .0 .0) = argument-inv ws (t .0) (t .1) in
     subst (Took Element·name ws) e (ap (λ (l : Words-left). codes "element" ∷ l) (f .0), f .1)
+arguments-inv Digest·name ws p h =
+    let t = then-inv (oracleOf ws) (λ o. andThen (argumentOf (o .1)) (λ q. Ok (digest (o .0) (q .0), q .1))) p h in
+    let o : Source = t .0 .0 in
+    let u = then-inv (argumentOf (t .0 .1)) (λ q. Ok (digest o (q .0), q .1)) p (t .2) in
+    let g : Ok (digest o (u .0 .0), u .0 .1) ≡ Ok p = u .2 in
+    let e : (digest o (u .0 .0), u .0 .1) ≡ p = cc in
+    let i = oracle-inv ws (t .0) (t .1) in
+    let f : (t .0 .1 ≡ written (u .0 .0) ∷ u .0 .1) × Lawful (u .0 .0) = argument-inv (t .0 .1) (u .0) (u .1) in
+    subst (Took Digest·name ws) e
+    (ap (λ (l : Words-left). codes "digest" ∷ l) (i .0 ∙ ap (λ (l : Words-left). sourceWords o ++ l) (f .0) ∙ sym (append-assoc (sourceWords o) (written (u .0 .0) ∷ []) (u .0 .1))), (i .1, f .1))
+arguments-inv Verdict·name ws p h =
+    let t = then-inv (oracleOf ws) (λ o. andThen (argumentOf (o .1)) (λ k. andThen (argumentOf (k .1)) (λ m. andThen (argumentOf (m .1)) (λ g. Ok (verdict (o .0) (k .0) (m .0) (g .0), g .1))))) p h in
+    let o : Source = t .0 .0 in
+    let u = then-inv (argumentOf (t .0 .1)) (λ k. andThen (argumentOf (k .1)) (λ m. andThen (argumentOf (m .1)) (λ g. Ok (verdict o (k .0) (m .0) (g .0), g .1)))) p (t .2) in
+    let k : Said = u .0 .0 in
+    let v = then-inv (argumentOf (u .0 .1)) (λ m. andThen (argumentOf (m .1)) (λ g. Ok (verdict o k (m .0) (g .0), g .1))) p (u .2) in
+    let m : Said = v .0 .0 in
+    let w = then-inv (argumentOf (v .0 .1)) (λ g. Ok (verdict o k m (g .0), g .1)) p (v .2) in
+    let y : Ok (verdict o k m (w .0 .0), w .0 .1) ≡ Ok p = w .2 in
+    let e : (verdict o k m (w .0 .0), w .0 .1) ≡ p = cc in
+    let i = oracle-inv ws (t .0) (t .1) in
+    let a = argument-inv (t .0 .1) (u .0) (u .1) in
+    let b = argument-inv (u .0 .1) (v .0) (v .1) in
+    let d = argument-inv (v .0 .1) (w .0) (w .1) in
+    let all : t .0 .1 ≡ written k ∷ (written m ∷ (written (w .0 .0) ∷ w .0 .1)) =
+    a .0 ∙ ap (λ (l : Words-left). written k ∷ l) (b .0 ∙ ap (λ (l : Words-left). written m ∷ l) (d .0)) in
+    subst (Took Verdict·name ws) e (
+      ap (λ (l : Words-left). codes "verdict" ∷ l) (i .0 ∙ ap (λ (l : Words-left). sourceWords o ++ l) all
+          ∙ sym (append-assoc (sourceWords o) (written k ∷ (written m ∷ (written (w .0 .0) ∷ []))) (w .0 .1))),
+      (i .1, a .1, b .1, d .1),
+    )
 
 named-inv : (ns : List Name) (w : List ℕ) (n : Name) → named ns w ≡ Ok n → w ≡ spelt n
 named-inv [] w n h = clash n UnknownCall h
@@ -166,12 +234,29 @@ whole-inv ws c h =
 whole-written : (c : Asked) → LawfulCall c → wholeOf (callWords c) ≡ Ok c
 whole-written (element a) h =
     ap (λ (r : Result (Said × Words-left) Why). with-end (andThen r (λ p. Ok (element (p .0), p .1)))) (argument-written a [] h)
+whole-written (digest o a) h =
+    ap (λ (r : Result (Source × Words-left) Why). with-end (andThen r (λ q. andThen (argumentOf (q .1)) (λ p. Ok (digest (q .0) (p .0), p .1))))) (oracle-written o (written a ∷ []) (h .0))
+    ∙ ap (λ (r : Result (Said × Words-left) Why). with-end (andThen r (λ p. Ok (digest o (p .0), p .1)))) (argument-written a [] (h .1))
+whole-written (verdict o k m g) h =
+    ap (λ (r : Result (Source × Words-left) Why). with-end (andThen r (λ q. andThen (argumentOf (q .1)) (λ x. andThen (argumentOf (x .1)) (λ y. andThen (argumentOf (y .1)) (λ z. Ok (verdict (q .0) (x .0) (y .0) (z .0), z .1)))))))
+    (oracle-written o (written k ∷ (written m ∷ (written g ∷ []))) (h .0))
+    ∙ ap (λ (r : Result (Said × Words-left) Why). with-end (andThen r (λ x. andThen (argumentOf (x .1)) (λ y. andThen (argumentOf (y .1)) (λ z. Ok (verdict o (x .0) (y .0) (z .0), z .1))))))
+    (argument-written k (written m ∷ (written g ∷ [])) (h .1))
+    ∙ ap (λ (r : Result (Said × Words-left) Why). with-end (andThen r (λ y. andThen (argumentOf (y .1)) (λ z. Ok (verdict o k (y .0) (z .0), z .1)))))
+    (argument-written m (written g ∷ []) (h .2))
+    ∙ ap (λ (r : Result (Said × Words-left) Why). with-end (andThen r (λ z. Ok (verdict o k m (z .0), z .1)))) (argument-written g [] (h .3))
 
 words-call : (c : Asked) → All (λ w. lacking 32 w ≡ true) (callWords c) → wordsOf (spaced (callWords c)) ≡ callWords c
 words-call (element a) h = words-spaced (codes "element") (written a ∷ []) h
+words-call (digest o a) h = words-spaced (codes "digest") (sourceWords o ++ (written a ∷ [])) h
+words-call (verdict o k m g) h = words-spaced (codes "verdict") (sourceWords o ++ (written k ∷ (written m ∷ (written g ∷ [])))) h
 
 loud-call : (c : Asked) → false ≡ silent (spaced (callWords c))
 loud-call (element a) = refl
+loud-call (digest scheme a) = refl
+loud-call (digest (book b) a) = refl
+loud-call (verdict scheme k m g) = refl
+loud-call (verdict (book b) k m g) = refl
 
 -- a line that is the call
 abbrev loud : List ℕ → Result Told Why

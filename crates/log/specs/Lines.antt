@@ -15,9 +15,9 @@ use Rattle.std.specs.shelf.Lists.{All}
 use Rattle.std.specs.shelf.Text.{sameBytes}
 use Rattle.hex.specs.Digits.{unhex, allDigits}
 use Rattle.log.specs.declared.Why.{Why}
-use Rattle.log.specs.declared.Why.the-variants.{CarriageReturn, EmptyWord, UnknownCall, ExtraWord, NoOctets, OddDigits, NoDigit, EmptyPath}
+use Rattle.log.specs.declared.Why.the-variants.{CarriageReturn, EmptyWord, UnknownCall, ExtraWord, NoOctets, NoOracle, OddDigits, NoDigit, EmptyPath}
 use Rattle.log.specs.declared.Name.{Name}
-use Rattle.log.specs.declared.Name.the-variants.{Element as Element·name}
+use Rattle.log.specs.declared.Name.the-variants.{Element as Element·name, Digest as Digest·name, Verdict as Verdict·name}
 use Rattle.log.specs.Words.{wordsOf, spaced, lacking, takeWord}
 
 -- octets as a line writes them: by their digits, or by the path of a file
@@ -25,9 +25,16 @@ pub data Said : Type 0 where
   digits : List ℕ → Said
   path : List ℕ → Said
 
--- a call with its arguments
+-- an oracle as a line names it: the test scheme, or the verdict book of some octets
+pub data Source : Type 0 where
+  scheme : Source
+  book : Said → Source
+
+-- a call with its arguments; those of `verdict` are a key, a message and a signature
 pub data Asked : Type 0 where
   element : Said → Asked
+  digest : Source → Said → Asked
+  verdict : Source → Said → Said → Said → Asked
 
 -- what a line says
 pub data Told : Type 0 where
@@ -67,12 +74,24 @@ octetsOf w = sortOf (stripped (codes "hex:") w) (stripped (codes "@") w)
 abbrev pub argumentOf : List (List ℕ) → Result (Said × List (List ℕ)) Why
 argumentOf ws = andThen (takeWord ws) (λ p. andThen (octetsOf (p .0)) (λ a. Ok (a, p .1)))
 
+-- an oracle by its first word, and what follows it
+abbrev pub sourceOf : List ℕ → List (List ℕ) → Result (Source × List (List ℕ)) Why
+sourceOf w ws =
+    cond (sameBytes w (codes "scheme")) (Ok (scheme, ws))
+    (cond (sameBytes w (codes "book")) (andThen (argumentOf ws) (λ p. Ok (book (p .0), p .1))) (Err NoOracle))
+
+-- an oracle as the next word or two
+abbrev pub oracleOf : List (List ℕ) → Result (Source × List (List ℕ)) Why
+oracleOf ws = andThen (takeWord ws) (λ p. sourceOf (p .0) (p .1))
+
 -- how each call is spelt, and the calls that there are
 abbrev pub spelt : Name → List ℕ
 spelt Element·name = codes "element"
+spelt Digest·name = codes "digest"
+spelt Verdict·name = codes "verdict"
 
 abbrev pub calls : List Name
-calls = Element·name ∷ []
+calls = Element·name ∷ (Digest·name ∷ (Verdict·name ∷ []))
 
 -- the first of some calls that is spelt as the word
 abbrev pub named : List Name → List ℕ → Result Name Why
@@ -83,9 +102,17 @@ named (n ∷ ns) w = cond (sameBytes w (spelt n)) (Ok n) (named ns w)
 abbrev pub nameOf : List ℕ → Result Name Why
 nameOf w = named calls w
 
+-- the arguments of `verdict`
+abbrev pub verdictOf : List (List ℕ) → Result (Asked × List (List ℕ)) Why
+verdictOf ws =
+    andThen (oracleOf ws) (λ o. andThen (argumentOf (o .1)) (λ k. andThen (argumentOf (k .1)) (λ m. andThen (argumentOf (m .1)) (λ g.
+    Ok (verdict (o .0) (k .0) (m .0) (g .0), g .1)))))
+
 -- the arguments of each call
 abbrev pub argumentsOf : Name → List (List ℕ) → Result (Asked × List (List ℕ)) Why
 argumentsOf Element·name ws = andThen (argumentOf ws) (λ p. Ok (element (p .0), p .1))
+argumentsOf Digest·name ws = andThen (oracleOf ws) (λ o. andThen (argumentOf (o .1)) (λ p. Ok (digest (o .0) (p .0), p .1)))
+argumentsOf Verdict·name ws = verdictOf ws
 
 -- the name of a call and its arguments
 abbrev pub callOf : List (List ℕ) → Result (Asked × List (List ℕ)) Why
@@ -120,17 +147,31 @@ abbrev pub Lawful : Said → Type 0
 Lawful (digits d) = isSome (unhex d) ≡ true
 Lawful (path p) = 0 < length p
 
+-- the octets of a book are lawful
+abbrev pub LawfulSource : Source → Type 0
+LawfulSource scheme = Unit {0}
+LawfulSource (book a) = Lawful a
+
 -- the octets of a call are lawful
 abbrev pub LawfulCall : Asked → Type 0
 LawfulCall (element a) = Lawful a
+LawfulCall (digest o a) = LawfulSource o × Lawful a
+LawfulCall (verdict o k m g) = LawfulSource o × Lawful k × Lawful m × Lawful g
 
 abbrev pub LawfulLine : Told → Type 0
 LawfulLine nothing = Unit {0}
 LawfulLine (call c) = LawfulCall c
 
+-- the words that name an oracle
+abbrev pub sourceWords : Source → List (List ℕ)
+sourceWords scheme = codes "scheme" ∷ []
+sourceWords (book a) = codes "book" ∷ (written a ∷ [])
+
 -- the words that write a call
 abbrev pub callWords : Asked → List (List ℕ)
 callWords (element a) = codes "element" ∷ (written a ∷ [])
+callWords (digest o a) = codes "digest" ∷ (sourceWords o ++ (written a ∷ []))
+callWords (verdict o k m g) = codes "verdict" ∷ (sourceWords o ++ (written k ∷ (written m ∷ (written g ∷ []))))
 
 -- a line that is the words of a call, with single spaces between them
 pub record CallLine (s : List ℕ) (c : Asked) : Type 0 where

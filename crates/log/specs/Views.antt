@@ -11,11 +11,13 @@ use Rattle.log.specs.declared.Words.{Words}
 use Rattle.log.specs.declared.Octets.{Octets}
 use Rattle.log.specs.declared.Octets.the-variants.{Digits, Path}
 use Rattle.log.specs.declared.Call.{Call}
-use Rattle.log.specs.declared.Call.the-variants.{Element}
+use Rattle.log.specs.declared.Call.the-variants.{Element, Digest, Verdict}
+use Rattle.log.specs.declared.OracleWord.{OracleWord}
+use Rattle.log.specs.declared.OracleWord.the-variants.{Scheme, Book}
 use Rattle.log.specs.declared.Line.{Line}
 use Rattle.log.specs.declared.Line.the-variants.{Nothing, Call as Call·line}
 use Rattle.log.specs.Words.{wordsOf}
-use Rattle.log.specs.Lines.{Said, digits, path, Asked, element, Told, nothing, call}
+use Rattle.log.specs.Lines.{Said, digits, path, Source, scheme, book, Asked, element, digest, verdict, Told, nothing, call}
 
 -- the words that are still to come
 abbrev pub pieces : Option (RefT (List ℕ)) → List (List ℕ)
@@ -29,8 +31,14 @@ abbrev pub said : Octets → Said
 said (Digits d) = digits (now d)
 said (Path p) = path (now p)
 
+abbrev pub sourced : OracleWord → Source
+sourced Scheme = scheme
+sourced (Book o) = book (said o)
+
 abbrev pub asked : Call → Asked
 asked (Element o) = element (said o)
+asked (Digest o a) = digest (sourced o) (said a)
+asked (Verdict o k m g) = verdict (sourced o) (said k) (said m) (said g)
 
 abbrev pub told : Line → Told
 told Nothing = nothing

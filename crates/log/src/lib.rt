@@ -18,8 +18,8 @@ ghost use Rattle.std.specs.Vec.{made};
 ghost use Rattle.std.specs.shelf.Lists.{All};
 ghost use Rattle.std.specs.shelf.Text.{sameBytes};
 ghost use Rattle.log.specs.Words.{wordsOf, spaced, lacking, wordEnd, wordsPast, takeWord};
-ghost use Rattle.log.specs.Lines.{stripped, digitsOf, pathOf, octetsOf, argumentOf, nameOf, callOf, ended, wholeOf, silent, lineOf, Lawful, LawfulCall, LawfulLine, ReadsCalls, ReadsElements};
-ghost use Rattle.log.specs.Views.{pieces, left, said, asked, told, beside, seen};
+ghost use Rattle.log.specs.Lines.{stripped, digitsOf, pathOf, octetsOf, argumentOf, oracleOf, verdictOf, nameOf, callOf, ended, wholeOf, silent, lineOf, Lawful, LawfulSource, LawfulCall, LawfulLine, ReadsCalls, ReadsElements};
+ghost use Rattle.log.specs.Views.{pieces, left, said, sourced, asked, told, beside, seen};
 use std::fmt;
 
 // Why a line is no call.
@@ -31,6 +31,7 @@ pub enum Why {
     MissingWord,
     ExtraWord,
     NoOctets,
+    NoOracle,
     OddDigits,
     NoDigit,
     EmptyPath,
@@ -44,10 +45,12 @@ impl Why {
             Why::CarriageReturn => "a carriage return: end each line with a newline alone",
             Why::EmptyWord =>
                 "a space too many: write one space between words, and none at either end",
-            Why::UnknownCall => "an unknown call: the first word must name a call, as element",
+            Why::UnknownCall =>
+                "an unknown call: the first word must name one, as element, digest or verdict",
             Why::MissingWord => "a word is missing: write each argument of the call",
             Why::ExtraWord => "a word too many: write only the arguments of the call",
             Why::NoOctets => "no octets: write hex: and digits, or @ and a path",
+            Why::NoOracle => "no oracle: write scheme, or book and the octets of a verdict book",
             Why::OddDigits => "an odd number of digits: write two digits for each octet",
             Why::NoDigit =>
                 "a character that is no hexadecimal digit: write 0 to 9, a to f or A to F",
@@ -126,6 +129,21 @@ impl<'a> Words<'a> {
         read_octets(self.next()?)
     }
 
+    // The next word or two, as an oracle.
+    pub fn oracle(&mut self) -> Result<OracleWord<'a>, Why>
+        ensures value { λ r. ⌜ beside sourced r (left (now (self .exit))) ≡ oracleOf (left (now (self .entry))) ⌝ }
+        ensures lawful { λ r. ⌜ made r (λ o. LawfulSource (sourced o)) ⌝ }
+    {
+        let word = self.next()?;
+        if same(word, b"scheme") {
+            return Ok(OracleWord::Scheme);
+        }
+        if same(word, b"book") {
+            return Ok(OracleWord::Book(self.octets()?));
+        }
+        Err(Why::NoOracle)
+    }
+
     // That no word is left.
     pub fn end(self) -> Result<(), Why>
         ensures { λ r. ⌜ r ≡ ended (left (self .entry)) ⌝ }
@@ -145,6 +163,13 @@ impl<'a> Words<'a> {
 pub enum Octets<'a> {
     Digits(&'a [u8]),
     Path(&'a [u8]),
+}
+
+// An oracle as a line names it: the test scheme, or the verdict book of some octets.
+#[derive(Clone, Copy)]
+pub enum OracleWord<'a> {
+    Scheme,
+    Book(Octets<'a>),
 }
 
 // What follows the prefix, where the word begins with it.
@@ -197,12 +222,24 @@ pub fn read_octets<'a>(word: &'a [u8]) -> Result<Octets<'a>, Why>
 #[derive(Clone, Copy)]
 pub enum Call<'a> {
     Element(Octets<'a>),
+    Digest {
+        oracle: OracleWord<'a>,
+        octets: Octets<'a>,
+    },
+    Verdict {
+        oracle: OracleWord<'a>,
+        key: Octets<'a>,
+        message: Octets<'a>,
+        signature: Octets<'a>,
+    },
 }
 
 // The name of a call.
 #[derive(Clone, Copy)]
 enum Name {
     Element,
+    Digest,
+    Verdict,
 }
 
 // Whether two words are the same.
@@ -219,7 +256,26 @@ fn read_name(word: &[u8]) -> Result<Name, Why>
     if same(word, b"element") {
         return Ok(Name::Element);
     }
+    if same(word, b"digest") {
+        return Ok(Name::Digest);
+    }
+    if same(word, b"verdict") {
+        return Ok(Name::Verdict);
+    }
     Err(Why::UnknownCall)
+}
+
+// The arguments of `verdict`.
+fn read_verdict<'a>(words: &mut Words<'a>) -> Result<Call<'a>, Why>
+    ensures value { λ r. ⌜ beside asked r (left (now (words .exit))) ≡ verdictOf (left (now (words .entry))) ⌝ }
+    ensures lawful { λ r. ⌜ made r (λ c. LawfulCall (asked c)) ⌝ }
+{
+    Ok(Call::Verdict {
+        oracle: words.oracle()?,
+        key: words.octets()?,
+        message: words.octets()?,
+        signature: words.octets()?,
+    })
 }
 
 // A call and its arguments, from the words of a line.
@@ -229,6 +285,11 @@ fn read_call<'a>(words: &mut Words<'a>) -> Result<Call<'a>, Why>
 {
     match read_name(words.next()?)? {
         Name::Element => Ok(Call::Element(words.octets()?)),
+        Name::Digest => Ok(Call::Digest {
+            oracle: words.oracle()?,
+            octets: words.octets()?,
+        }),
+        Name::Verdict => read_verdict(words),
     }
 }
 

@@ -1,9 +1,12 @@
 -- The lines that calls of a log answer. Assumes nothing.
 use Prim.Native.Nat.{ℕ}
 use mathlib.Core.List.{List, [], _∷_, _++_}
+use mathlib.Core.Bool.{Bool, true, false}
 use lib.Chars.{codes}
 use lib.ListN.{length}
 use Rattle.std.specs.Written.{decimal}
+use Rattle.std.specs.declared.option.Option.{Option}
+use Rattle.std.specs.declared.option.Option.the-variants.{Some, None}
 use Rattle.std.specs.declared.result.Result.{Result}
 use Rattle.std.specs.declared.result.Result.the-variants.{Ok, Err}
 use Rattle.fault.specs.declared.ElementFault.{ElementFault}
@@ -27,3 +30,16 @@ elementAnswer (Ok p) =
     ++ spot (p .0 .content-place) (length (p .0 .content)) (codes " "
     ++ spot (p .1 .place) (length (p .1 .octets)) (codes "\n"))))
 elementAnswer (Err f) = faultLine (numberOf (elementReport f .rule)) (elementReport f .place)
+
+-- `digest HEX`, or `digest unknown`
+abbrev pub digestLine : List ℕ → List ℕ
+digestLine d = codes "digest " ++ (hexText d ++ codes "\n")
+
+abbrev pub digestAnswer : Option (List ℕ) → List ℕ
+digestAnswer (Some d) = digestLine d
+digestAnswer None = codes "digest unknown\n"
+
+-- `verdict yes`, or `verdict no`
+abbrev pub verdictAnswer : Bool → List ℕ
+verdictAnswer true = codes "verdict yes\n"
+verdictAnswer false = codes "verdict no\n"

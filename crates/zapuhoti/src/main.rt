@@ -1,6 +1,11 @@
 // The program: a thin layer over the libraries, which reads files and prints what they answer.
 ghost use Prim.Native.Nat.{_≤_, _<_};
 ghost use lib.ListN.{length};
+use book::Book;
+use book::BookOracle;
+use book_writer::WriteError;
+use book_writer::write_digest;
+use book_writer::write_verdict;
 use dump::push_line;
 use fault::Breach;
 use fault::BreachDisplay;
@@ -10,10 +15,16 @@ use fault::Fault;
 use log::Call;
 use log::Line;
 use log::Octets;
+use log::OracleWord;
 use log::Why;
 use log::WhyDisplay;
+use log::Words;
 use log::read_line;
+use oracle::Scheme;
+use oracle::SchemeOracle;
+use replay::digest_answer;
 use replay::element_answer;
+use replay::verdict_answer;
 use std::alloc::AllocError;
 use std::alloc::Global;
 use std::alloc::Refused;
@@ -34,6 +45,9 @@ usage: zapuhoti COMMAND ..
                   with --all none is; --quiet only counts the elements
   replay LOG      run the calls of a log, a line each, and print each answer;
                   - is standard input
+  book LIST OUT   write a verdict book: a record for each line of LIST (- is standard input),
+                  digest OCTETS DIGEST or verdict KEY MESSAGE SIGNATURE, each hex: and digits
+                  or @ and a path
   --help          print this text
 ";
 
@@ -181,53 +195,220 @@ fn first_line<'a>(rest: &'a [u8]) -> (&'a [u8], &'a [u8])
     (rest, &rest[rest.len()..])
 }
 
-// The octets that a word of a log says, or why there are none.
-fn find_octets(rt: &LibcRuntime, word: Octets<'_>) -> Result<Result<Vec<u8>, Why>, AllocError> {
+// Why a line of a log or of a list stops the run.
+#[derive(Clone, Copy)]
+enum Stop {
+    Memory,
+    Line(Why),
+    NoDigest,
+    TooLong,
+}
+
+impl From<AllocError> for Stop as StopFromAlloc {
+    fn from(_e: AllocError) -> Stop {
+        Stop::Memory
+    }
+}
+
+impl From<Why> for Stop as StopFromWhy {
+    fn from(why: Why) -> Stop {
+        Stop::Line(why)
+    }
+}
+
+impl From<WriteError> for Stop as StopFromWrite {
+    fn from(e: WriteError) -> Stop {
+        match e {
+            WriteError::TooLong => Stop::TooLong,
+            WriteError::Memory => Stop::Memory,
+        }
+    }
+}
+
+// The octets that a word of a log says.
+fn find_octets(rt: &LibcRuntime, word: Octets<'_>) -> Result<Vec<u8>, Stop> {
     match word {
         Octets::Digits(digits) => match hex::decode(rt.alloc(), digits)? {
-            Some(octets) => Ok(Ok(octets)),
-            None => Ok(Err(Why::NoDigit)),
+            Some(octets) => Ok(octets),
+            None => Err(Stop::Line(Why::NoDigit)),
         },
         Octets::Path(path) => {
             let Ok(path) = std::str::from_utf8(path) else {
-                return Ok(Err(Why::NoFile));
+                return Err(Stop::Line(Why::NoFile));
             };
             match fs::read(rt, path) {
-                Ok(octets) => Ok(Ok(octets)),
-                Err(_) => Ok(Err(Why::NoFile)),
+                Ok(octets) => Ok(octets),
+                Err(_) => Err(Stop::Line(Why::NoFile)),
             }
         },
     }
 }
 
-// Makes a call and appends its answer, or says why it is none.
-fn run_call(
-    rt: &LibcRuntime,
-    call: Call<'_>,
-    text: &mut String,
-) -> Result<Result<(), Why>, AllocError> {
-    match call {
-        Call::Element(word) => match find_octets(rt, word)? {
-            Ok(octets) => {
-                let answer = element_answer(rt.alloc(), octets.as_slice())?;
-                text.push_str(answer.as_str())?;
-                Ok(Ok(()))
-            },
-            Err(why) => Ok(Err(why)),
+// Asks an oracle for a digest.
+fn ask_digest(rt: &LibcRuntime, oracle: OracleWord<'_>, octets: &[u8]) -> Result<String, Stop> {
+    match oracle {
+        OracleWord::Scheme => Ok(digest_answer(rt.alloc(), &Scheme, octets)?),
+        OracleWord::Book(word) => {
+            let book = find_octets(rt, word)?;
+            let oracle = Book {
+                octets: book.as_slice(),
+            };
+            Ok(digest_answer(rt.alloc(), &oracle, octets)?)
         },
     }
 }
 
-// Runs a line of a log.
-fn run_line(
+// Asks an oracle for a verdict.
+fn ask_verdict(
     rt: &LibcRuntime,
-    line: &[u8],
-    text: &mut String,
-) -> Result<Result<(), Why>, AllocError> {
-    match read_line(line) {
-        Ok(Line::Nothing) => Ok(Ok(())),
-        Ok(Line::Call(call)) => run_call(rt, call, text),
-        Err(why) => Ok(Err(why)),
+    oracle: OracleWord<'_>,
+    key: &[u8],
+    message: &[u8],
+    signature: &[u8],
+) -> Result<String, Stop> {
+    match oracle {
+        OracleWord::Scheme => Ok(verdict_answer(rt.alloc(), &Scheme, key, message, signature)?),
+        OracleWord::Book(word) => {
+            let book = find_octets(rt, word)?;
+            let oracle = Book {
+                octets: book.as_slice(),
+            };
+            Ok(verdict_answer(rt.alloc(), &oracle, key, message, signature)?)
+        },
+    }
+}
+
+// Makes a call and gives its answer, or says why it is none.
+fn run_call(rt: &LibcRuntime, call: Call<'_>) -> Result<String, Stop> {
+    match call {
+        Call::Element(word) => {
+            let octets = find_octets(rt, word)?;
+            Ok(element_answer(rt.alloc(), octets.as_slice())?)
+        },
+        Call::Digest { oracle, octets } => {
+            let octets = find_octets(rt, octets)?;
+            ask_digest(rt, oracle, octets.as_slice())
+        },
+        Call::Verdict {
+            oracle,
+            key,
+            message,
+            signature,
+        } => {
+            let key = find_octets(rt, key)?;
+            let message = find_octets(rt, message)?;
+            let signature = find_octets(rt, signature)?;
+            ask_verdict(
+                rt,
+                oracle,
+                key.as_slice(),
+                message.as_slice(),
+                signature.as_slice(),
+            )
+        },
+    }
+}
+
+// Runs a line of a log, and appends its answer.
+fn run_line(rt: &LibcRuntime, line: &[u8], text: &mut String) -> Result<(), Stop> {
+    match read_line(line)? {
+        Line::Nothing => Ok(()),
+        Line::Call(call) => {
+            let answer = run_call(rt, call)?;
+            text.push_str(answer.as_str())?;
+            Ok(())
+        },
+    }
+}
+
+// Appends the record of a line `digest OCTETS DIGEST`, from its arguments.
+fn add_digest(rt: &LibcRuntime, words: &mut Words<'_>, book: &mut Vec<u8>) -> Result<(), Stop> {
+    let octets = find_octets(rt, words.octets()?)?;
+    let digest = find_octets(rt, words.octets()?)?;
+    words.end()?;
+    if digest.len() != 32 {
+        return Err(Stop::NoDigest);
+    }
+    let mut whole = [0u8; 32];
+    whole.copy_from_slice(digest.as_slice());
+    write_digest(book, octets.as_slice(), &whole)?;
+    Ok(())
+}
+
+// Appends the record of a line `verdict KEY MESSAGE SIGNATURE`, from its arguments.
+fn add_verdict(rt: &LibcRuntime, words: &mut Words<'_>, book: &mut Vec<u8>) -> Result<(), Stop> {
+    let key = find_octets(rt, words.octets()?)?;
+    let message = find_octets(rt, words.octets()?)?;
+    let signature = find_octets(rt, words.octets()?)?;
+    words.end()?;
+    write_verdict(
+        book,
+        key.as_slice(),
+        message.as_slice(),
+        signature.as_slice(),
+    )?;
+    Ok(())
+}
+
+// Appends the record that a line of a list says.
+fn add_record(rt: &LibcRuntime, line: &[u8], book: &mut Vec<u8>) -> Result<(), Stop> {
+    if line.is_empty() || line[0] == b'#' {
+        return Ok(());
+    }
+    let mut words = Words::of(line);
+    let kind = words.next()?;
+    if kind == b"digest" {
+        return add_digest(rt, &mut words, book);
+    }
+    if kind == b"verdict" {
+        return add_verdict(rt, &mut words, book);
+    }
+    Err(Stop::Line(Why::UnknownCall))
+}
+
+// Says at which line a run stopped, and why.
+fn tell_line(rt: &LibcRuntime, number: usize, stop: Stop) -> Failure {
+    let told = match stop {
+        Stop::Memory => return Failure::Memory,
+        Stop::Line(why) => eprintln!(rt, "line {number}: {why}"),
+        Stop::NoDigest => eprintln!(rt, "line {number}: a digest has 32 octets"),
+        Stop::TooLong => eprintln!(
+            rt,
+            "line {number}: a field of a book has fewer than 16777216 octets"
+        ),
+    };
+    match told {
+        Ok(()) => Failure::Told,
+        Err(_) => Failure::Output,
+    }
+}
+
+// The verdict book of a list of records, where every line of the list is one.
+fn make_book(rt: &LibcRuntime, lines: &[u8]) -> Result<Vec<u8>, Failure> {
+    let mut book = Vec::new(rt.alloc());
+    let mut number: usize = 0;
+    let mut rest = lines;
+    while !rest.is_empty() {
+        let (line, after) = first_line(rest);
+        rest = after;
+        number = number.wrapping_add(1);
+        if let Err(stop) = add_record(rt, line, &mut book) {
+            return Err(tell_line(rt, number, stop));
+        }
+    }
+    Ok(book)
+}
+
+// Writes the verdict book of a list of records; nothing is written where a line is none.
+fn run_book(rt: &LibcRuntime, list: &str, out: &str) -> Result<(), Failure> {
+    let lines = read_log(rt, list)?;
+    let book = make_book(rt, lines.as_slice())?;
+    match fs::write(rt, out, book.as_slice()) {
+        Ok(()) => Ok(()),
+        Err(e) => {
+            eprintln!(rt, "zapuhoti: cannot write {out}: {e}")?;
+            Err(Failure::Told)
+        },
     }
 }
 
@@ -241,10 +422,9 @@ fn run_replay(rt: &LibcRuntime, path: &str) -> Result<(), Failure> {
         let (line, after) = first_line(rest);
         rest = after;
         number = number.wrapping_add(1);
-        if let Err(why) = run_line(rt, line, &mut text)? {
+        if let Err(stop) = run_line(rt, line, &mut text) {
             flush(rt, &mut text, true)?;
-            eprintln!(rt, "line {number}: {why}")?;
-            return Err(Failure::Told);
+            return Err(tell_line(rt, number, stop));
         }
         flush(rt, &mut text, false)?;
     }
@@ -276,6 +456,7 @@ fn run_words(rt: &LibcRuntime, words: &[String]) -> Result<(), Failure> {
             Detail::Count,
         ),
         [word, path] if *word == "replay" => run_replay(rt, path.as_str()),
+        [word, list, out] if *word == "book" => run_book(rt, list.as_str(), out.as_str()),
         _ => misused(rt, "these words are no command"),
     }
 }

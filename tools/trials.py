@@ -1,11 +1,11 @@
 #!/usr/bin/env python3
-"""Writes the trials of one element: crates/zapuhoti/data/ (a log of calls and the files it names) and the answers
-that the rules of docs/ENCODING.md give, crates/zapuhoti/stdout.
+"""Writes the trials of the program: crates/zapuhoti/data/ (a log of calls and the files it names) and the answers
+that the rules of docs/ENCODING.md and docs/ORACLES.md give, crates/zapuhoti/stdout.
 
 Outside the proved part. It has its own reading of the rules and shares nothing with the program: dates come from
-Python's calendar, and lengths from the rules as they stand in the document.
+Python's calendar, lengths and records from the rules as they stand in the documents.
 
-    python3 tools/element_trials.py
+    python3 tools/trials.py
 """
 import datetime
 from pathlib import Path
@@ -156,7 +156,89 @@ trial(element(0x01, b"\x01") + element(0x01, b"\xff"))
 for tag in (0x00, 0x07, 0x0C, 0x13, 0x30, 0x31, 0x80, 0x86, 0xA0, 0xFF):
     trial(element(tag, b"\x80\xff\x01"))
 
+
+
+# oracles
+def scheme_digest(s):
+    blocks = [s[i:i + 32].ljust(32, b"\0") for i in range(0, len(s), 32)]
+    whole = 0
+    for b in blocks:
+        whole ^= int.from_bytes(b, "big")
+    return whole.to_bytes(32, "big")
+
+
+def field(s):
+    return len(s).to_bytes(3, "big") + s
+
+
+def known(octets, digest):
+    return b"\x44" + field(octets) + field(digest)
+
+
+def signed(key, message, signature):
+    return b"\x59" + field(key) + field(message) + field(signature)
+
+
+def records(book):
+    """The records of a book, found by trying where each field could end."""
+    at = 0
+    while at < len(book):
+        want = {0x44: 2, 0x59: 3}.get(book[at])
+        place, fields = at + 1, []
+        while want and len(fields) < want:
+            if place + 3 > len(book):
+                return
+            size = int.from_bytes(book[place:place + 3], "big")
+            if place + 3 + size > len(book):
+                return
+            fields.append(book[place + 3:place + 3 + size])
+            place += 3 + size
+        if not want or (want == 2 and len(fields[1]) != 32):
+            return
+        yield fields
+        at = place
+
+
+def ask_digest(book, octets, file=None):
+    log.append(f"digest book {file or 'hex:' + book.hex()} hex:{octets.hex()}")
+    found = [f[1] for f in records(book) if len(f) == 2 and f[0] == octets]
+    out.append("digest " + (found[0].hex() if found else "unknown"))
+
+
+def ask_verdict(book, key, message, signature):
+    log.append("verdict book hex:" + book.hex() + "".join(" hex:" + x.hex() for x in (key, message, signature)))
+    out.append("verdict " + ("yes" if [key, message, signature] in [f for f in records(book) if len(f) == 3] else "no"))
+
+
+note("the test scheme")
+for n in (0, 1, 2, 31, 32, 33, 63, 64, 65, 100):
+    octets = bytes((7 * i + 1) & 255 for i in range(n))
+    log.append("digest scheme hex:" + octets.hex())
+    out.append("digest " + scheme_digest(octets).hex())
+for key, message in ((b"", b""), (b"k", b"m"), (b"k" * 31, b"mm"), (b"k" * 32, b"m" * 40), (b"k" * 33, b"")):
+    good = scheme_digest(key + message)
+    for signature in (good, good[:-1], good + b"\0", bytes([good[0] ^ 1]) + good[1:], scheme_digest(message + key)):
+        log.append("verdict scheme" + "".join(" hex:" + x.hex() for x in (key, message, signature)))
+        out.append("verdict " + ("yes" if signature == good else "no"))
+note("verdict books: the first of equal octets, cut records, other shapes")
+one, two = bytes(range(32)), bytes(range(32, 64))
+book = known(b"ab", one) + signed(b"key", b"message", b"sig") + known(b"ab", two) + known(b"", two) + signed(b"", b"", b"")
+for octets in (b"ab", b"", b"a", b"abc"):
+    ask_digest(book, octets)
+    ask_digest(b"", octets)
+for cut in (1, 5, 33):
+    ask_digest(book[:-cut], b"")
+    ask_verdict(book[:-cut], b"", b"", b"")
+for other in (known(b"ab", one[:31]) + known(b"ab", two), b"\x45" + book, known(b"x", one) + b"\x00" + book, known(b"ab", one + b"!") + book):
+    ask_digest(other, b"ab")
+    ask_digest(other, b"x")
+for triple in ((b"key", b"message", b"sig"), (b"keym", b"essage", b"sig"), (b"key", b"message", b"si"), (b"key", b"messagf", b"sig"), (b"", b"", b""), (b"sig", b"message", b"key")):
+    ask_verdict(book, *triple)
+    ask_verdict(b"", *triple)
+(DATA / "book.bin").write_bytes(book)
+ask_digest(book, b"ab", "@book.bin")
+
 DATA.mkdir(exist_ok=True)
 (DATA / "log.txt").write_text("\n".join(log) + "\n")
 (HOME / "stdout").write_text("\n".join(out) + "\n")
-print(f"{len(out)} trials, {sum('ok' in x for x in out)} of them elements")
+print(f"{len(out)} trials")

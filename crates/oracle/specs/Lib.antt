@@ -1,0 +1,3 @@
+pub mod Scheme
+pub mod Runs
+pub mod Meaning

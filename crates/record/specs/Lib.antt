@@ -1,0 +1,4 @@
+pub mod Format
+pub mod Views
+pub mod Writing
+pub mod Promises
