@@ -8,7 +8,7 @@ Python package `cryptography`, and writes what it found. Whoever validates with 
 it are right; that the validator answers by the book, and only by it, is proved. docs/ORACLES.md has the format.
 
 For each .cer, .crl, .mft and .roa file below FOLDER:
-  - a digest record of the file's octets;
+  - a digest record of the file's octets, unless it is a manifest or a self-signed certificate, which no manifest lists;
   - of a signed object (.mft, .roa) a digest record of its eContent, and a verdict record with the subjectPublicKeyInfo
     of its certificate, its signed attributes with the first octet A0 replaced by 31, and its signature;
   - of each certificate, in a file or in a signed object, and of each CRL a verdict record with the
@@ -263,12 +263,15 @@ def make_book(files):
     found = []
     issuers = {}
     for path, octets in files:
-        book.digest(octets)
         try:
             certificates, lists, signed_object = parse(path, octets)
         except Malformed as why:
+            book.digest(octets)
             print("%s: %s" % (path, why), file=sys.stderr)
             continue
+        anchor = path.endswith(".cer") and all(c.issuer == c.subject for c in certificates)
+        if not anchor and not path.endswith(".mft"):
+            book.digest(octets)
         found.append((path, certificates, lists, signed_object))
         if path.endswith(".cer"):
             for certificate in certificates:
