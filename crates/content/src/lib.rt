@@ -239,5 +239,6 @@ pub fn values_have_one_content() -> bool
     ensures shown { λ r. ⌜ r ≡ true ⌝ }
     ensures theorem { λ _. ⌜ ValuesOneToOne ⌝ }
 {
-    true
+    let shown = true;
+    shown
 }

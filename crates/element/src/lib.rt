@@ -221,5 +221,6 @@ pub fn elements_have_one_encoding() -> bool
     ensures shown { λ r. ⌜ r ≡ true ⌝ }
     ensures theorem { λ _. ⌜ OneEncoding ⌝ }
 {
-    true
+    let shown = true;
+    shown
 }

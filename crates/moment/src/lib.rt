@@ -146,8 +146,8 @@ pub fn utc_time(content: &[u8]) -> Option<Moment>
     ensures value { λ r. ⌜ noted r ≡ utcOf (now (content .entry)) ⌝ }
     ensures relation { λ r. ⌜ Cases r ((m : ℕ) → UtcTime (now (content .entry)) m → ⊥) (λ m. UtcTime (now (content .entry)) (numberIn m)) ⌝ }
 {
-    let number = utc_number(content)?;
-    Moment::new(number)
+    let full = utc_number(content)?;
+    Moment::new(full)
 }
 
 // The moment that the content of a GeneralizedTime says.
@@ -165,7 +165,8 @@ pub fn utc_times_stand() -> bool
     ensures moments { λ _. ⌜ Utc-one-moment ⌝ }
     ensures contents { λ _. ⌜ Utc-one-content ⌝ }
 {
-    true
+    let utc_shown = true;
+    utc_shown
 }
 
 // That no content is the GeneralizedTime of two moments, and that every moment has one content, which is read as it.
@@ -174,5 +175,6 @@ pub fn generalized_times_stand() -> bool
     ensures moments { λ _. ⌜ Generalized-one-moment ⌝ }
     ensures contents { λ _. ⌜ Generalized-one-content ⌝ }
 {
-    true
+    let generalized_shown = true;
+    generalized_shown
 }
