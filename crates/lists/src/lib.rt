@@ -1,22 +1,19 @@
 // Lists of resources as RFC 3779 writes them: a SEQUENCE of entries, each one range of points.
 //
-// `read_list` reads the entries of any kind of points into a lent table of full size: each in its own form, in
-// ascending order with a point missing between two, at most 256. It rests on `layout` for what a layout wants.
+// `read_entries` reads the entries of any kind of points into a lent table of full size: each in its own form, in
+// ascending order with a point missing between two, at most 256. It rests on `entries` for the single entry.
 ghost use mathlib.Core.Path.{_≡_};
 ghost use Prim.Native.Nat.{ℕ, _-_, _<_, _≤_};
 ghost use lib.ListN.{length, set};
-ghost use Rattle.std.specs.declared.result.Result.{Result};
-ghost use Rattle.std.specs.declared.result.Result.the-variants.{Ok, Err};
-ghost use Rattle.fault.specs.declared.Report.{Report};
 ghost use Rattle.fault.specs.Faults.{setReport, reported};
 ghost use Rattle.std.specs.Vec.{made};
 ghost use Rattle.std.specs.declared.option.Option.the-variants.{None};
-ghost use Rattle.element.specs.Reading.{Seen, seen, octetsOf, Placed};
-ghost use Rattle.ranges.specs.declared.Range.{Range};
+ghost use Rattle.element.specs.Reading.{seen, octetsOf, Placed};
 ghost use Rattle.lists.specs.Entries.{isApart, entryIn, pastLast, entryWith, entriesOf, counted, kept};
 use element::Element;
 use element::Part;
 use element::read;
+use entries::Resource;
 use fault::Fault;
 use fault::Rule;
 use fault::SetFault;
@@ -25,16 +22,6 @@ use fault::SetReports;
 use points::Point;
 use ranges::MOST;
 use ranges::Range;
-
-// A kind of points that certificates list: how one entry is read.
-pub trait Resource: Point {
-    // the range that an element says, or the fault in it
-    ghost entry: { Seen → Result (Range Self) Report };
-
-    fn read_entry(element: &Element<'_>) -> Result<Range<Self>, SetFault>
-        requires { ⌜ Placed (now element .content) ⌝ }
-        ensures { λ r. ⌜ reported setReport r ≡ entry (seen (now (element .entry))) ⌝ };
-}
 
 // Whether the range stands after the one before it, with a point missing between them.
 fn is_next<P: Point>(before: Option<Range<P>>, range: Range<P>) -> bool

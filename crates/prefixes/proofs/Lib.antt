@@ -1,0 +1,6 @@
+mod Powers
+mod Ends
+mod Tails
+mod Octets
+pub mod Laws
+pub mod Shortest

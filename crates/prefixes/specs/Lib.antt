@@ -1,0 +1,5 @@
+pub mod Widths
+pub mod Reading
+pub mod Ranges
+pub mod Writing
+pub mod Theorems
