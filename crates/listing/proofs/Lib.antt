@@ -1,0 +1,4 @@
+pub mod Writes
+pub mod Lists
+pub mod Addresses
+pub mod Tellings

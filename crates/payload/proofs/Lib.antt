@@ -1,0 +1,5 @@
+pub mod Shifts
+pub mod Orders
+pub mod Members
+pub mod Blocks
+pub mod Laws

@@ -1,0 +1,4 @@
+pub mod Walks
+pub mod Verdicts
+pub mod Laws
+pub mod Blocks
