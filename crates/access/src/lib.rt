@@ -3,6 +3,8 @@
 // `read_access` reads the value of the extension: the folder of the publication point and the name of its manifest, which stands in
 // that folder, as parts of the file, or the first fault in its place. Other descriptions are passed over. It rests on `x509` and `layout`
 // for the layout and on `names` for what a folder and a manifest's name are.
+#![tactic(auto)]
+
 ghost use Rattle.std.specs.Prelude.{◌≡◌, true, ◌&&◌};
 ghost use Rattle.std.specs.Option.{option_map};
 ghost use Rattle.fault.specs.declared.Layer.TheVariants.{Certificate};

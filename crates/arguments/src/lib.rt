@@ -6,6 +6,8 @@
 // Digits are even in number and each is one, a list reads as a list of its kind, and a number fits 64 bits, so that what is taken here can be decoded.
 // Each argument is what specs/Arguments.antt defines, and it is taken exactly where the words are its text. What is read is lent from the line, and
 // nothing is allocated. It rests on `pieces` for the words, on `hex` for digits, on `numeral` for numbers and on `list_text` for lists.
+#![tactic(auto)]
+
 ghost use Rattle.std.specs.Prelude.{◌≡◌, true, IfOk};
 ghost use Rattle.std.specs.Option.{option_map};
 ghost use Rattle.std.specs.List.{AllByRecursion as All};

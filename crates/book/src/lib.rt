@@ -5,6 +5,8 @@
 // after the last whole record says nothing. Each question walks over the records by their lengths, and compares
 // a record's octets only where the lengths agree. It rests on `record` for the format and on `oracle` for what an
 // oracle is.
+#![tactic(auto)]
+
 ghost use Rattle.std.specs.Prelude.{◌≡◌};
 ghost use Rattle.std.specs.Str.{bytes_eq};
 ghost use Rattle.record.specs.Views.{record_seen};

@@ -4,6 +4,8 @@
 // of kind 59 apart. The index then answers every question as the book does: `open` promises it, and what the
 // index means is fixed by what it holds. A question compares lengths first, and octets only where they agree. It
 // rests on `record` for the format, on `book` for the meaning and on `oracle` for what an oracle is.
+#![tactic(auto)]
+
 ghost use Rattle.std.specs.Prelude.{◌≡◌, map, IfOk, OnOk};
 ghost use Rattle.book.specs.Meaning.{yes_said, first_digest, some_verdict};
 ghost use Rattle.book_index.specs.Held.{known_seen, signed_seen, index_digest, index_verdict, Listed, AnswersAs};

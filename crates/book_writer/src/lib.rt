@@ -4,6 +4,8 @@
 // was: a field of 2^24 octets or more has no length in the book's format, and memory may run out. Where each octet
 // of the book belonged to a whole record, the records afterwards are those before and then the new one, and
 // again each octet belongs to one. It rests on `record` for the format.
+#![tactic(auto)]
+
 ghost use Rattle.std.specs.Prelude.{◌≡◌, ℕ, ◌^◌, ◌<◌, length};
 ghost use Rattle.record.specs.Format.{Known, Signed};
 ghost use Rattle.record.specs.Writing.{field_octets, record_octets};

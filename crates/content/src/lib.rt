@@ -4,6 +4,8 @@
 // `kind_of` says which tag is which, `check_form` whether a content has the form of its tag, and `read_boolean`,
 // `read_integer`, `read_bit_string` and `read_oid` give the value. Each promises the exact answer for all octets, and that
 // a value has one content only. It rests on `moment` for the two kinds of time.
+#![tactic(auto)]
+
 ghost use Rattle.std.specs.Prelude.{◌≡◌, ℕ, ◌+◌, ◌<◌, ◌≤◌, true, length, is_some};
 ghost use Rattle.moment.specs.Times.{utc_of, generalized_of};
 ghost use Rattle.content.specs.Tags.{kind_of};

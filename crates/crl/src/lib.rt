@@ -3,6 +3,8 @@
 // `read_crl` reads a whole file: it answers the list's issuer, its dates, the rows of revoked serials, the issuer's key id, the list's
 // number and what is signed, each as a part of the file, or the first fault in its place. Nothing is copied, and the file is gone
 // through once. It rests on `x509` and `fields` for what its layout shares with certificates.
+#![tactic(auto)]
+
 ghost use Rattle.std.specs.Prelude.{◌≡◌, IfOk};
 ghost use Rattle.std.specs.Option.{option_map};
 ghost use Rattle.fault.specs.Faults.{reported};

@@ -4,6 +4,8 @@
 // `push_line` appends such a line to a text and leaves what stands before it. Long values are cut after
 // `SHOWN` octets unless the whole is asked for, and indentation stops at `DEEPEST`, so that no file makes
 // the text longer than a fixed number of times its own length. It rests on `walk` and `content`.
+#![tactic(auto)]
+
 ghost use Rattle.std.specs.Prelude.{◌≡◌, ◌≤◌, string_bytes};
 
 use content::{BitString, Integer, Kind, kind_of, read_bit_string, read_boolean, read_integer};

@@ -4,6 +4,8 @@
 // parts of the input with their places, or how the octets break the form of an element. `write_header` and
 // `write` lay an element down in an area. What was written reads back, and what was read is written again
 // as the same octets. It rests on `content` for the forms of contents.
+#![tactic(auto)]
+
 ghost use Rattle.std.specs.Prelude.{◌≡◌, ℕ, ◌+◌, ◌<◌, ◌≤◌, true, ◌++◌, length, take, drop, IfOk, OnOk, slice_index};
 ghost use Rattle.element.specs.Reading.{whole_of, longer_of, measured, Placed, answered, read_of};
 ghost use Rattle.element.specs.Lengths.{length_octets, header, encoded};

@@ -1,5 +1,6 @@
 // Trials of the element layer: what is written into areas of all sizes, typed values of contents, and which
 // numbers are moments. The forms of elements are tried by the program's own log.
+#![tactic(auto)]
 
 #[cfg(test)]
 mod tests {

@@ -2,6 +2,8 @@
 //
 // A `Resource` is a kind of points that certificates list; `V4`, `V6` and `Asn` are such kinds. It rests on
 // `prefixes` for bit strings as addresses and on `layout` for what a layout wants.
+#![tactic(auto)]
+
 ghost use Rattle.std.specs.Prelude.{◌≡◌, ◌^◌, ◌<◌, ◌≤◌, length, IfSome, IfOk, Result};
 ghost use Rattle.content.specs.Values.{bits_of};
 ghost use Rattle.prefixes.specs.Widths.{bits_in};

@@ -6,6 +6,8 @@
 // range that is not empty reads back as that range, whatever follows it, and octets that read as a range are what is written
 // for it, so that a range has one encoding. They rest on `prefixes` for addresses as bit strings, on `element` for the octets
 // of an element, and on `entries` for what an entry is read as.
+#![tactic(auto)]
+
 ghost use Rattle.std.specs.Prelude.{◌≡◌, true};
 ghost use Rattle.points.specs.Ranks.{v4_rank, v4_fits, v6_rank, v6_fits, asn_rank, asn_fits};
 ghost use Rattle.entries.specs.Kinds.{v4_entry, v6_entry, asn_entry};

@@ -5,6 +5,8 @@
 // an area that has room for them, and answers the place after them; all else in the area stays. The law of the trait says that
 // an entry reads back as the range that it was written for, that a range has one encoding, and that this has at most 40 octets.
 // It rests on `entry_text` for the octets and for the law, and on `prefixes` for addresses as bit strings.
+#![tactic(auto)]
+
 ghost use Rattle.std.specs.Prelude.{◌≡◌, ℕ, ◌+◌, ◌*◌, ◌/◌, ◌%◌, ◌^◌, ◌<◌, ◌≤◌, false, List, [], ◌∷◌, length, ◌≢◌};
 ghost use Rattle.points.specs.Ranks.{v6_rank};
 ghost use Rattle.prefixes.specs.Widths.{bits_in};

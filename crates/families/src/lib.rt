@@ -3,6 +3,8 @@
 // `family_after` reads such a name: an OCTET STRING of two octets, 00 01 for IPv4 and 00 02 for IPv6. Families stand in ascending order,
 // so it asks for one after the family before it, and answers its number and the octets after the name, or the first fault: a missing element
 // or a wrong tag (2), another name or one that does not ascend (3). It serves every layer, by its own fault type, and rests on `layout`.
+#![tactic(auto)]
+
 ghost use Rattle.std.specs.Prelude.{◌≡◌, ◌<◌, ◌≤◌, IfOk};
 ghost use Rattle.element.specs.Reading.{Placed, octets_of};
 ghost use Rattle.layout.specs.Expecting.{told_by};

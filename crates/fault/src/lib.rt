@@ -8,6 +8,8 @@
 // To add a layer: declare its fault type with a variant for each fault type below and one of its own,
 // give it a report in `specs/Faults.antt`, an `impl Fault` and an `impl From` for each layer below,
 // as `SetFault` has them (and an `impl LayerFault` in the crate `layout`).
+#![tactic(auto)]
+
 ghost use Rattle.std.specs.Prelude.{◌≡◌};
 ghost use Rattle.fault.specs.declared.Report.{Report};
 ghost use Rattle.fault.specs.Faults.{element_report, set_report};

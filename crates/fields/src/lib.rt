@@ -5,6 +5,8 @@
 // All are generic over the layer's fault type, as `layout::expect` is, and ask that the octets of the content have
 // offsets in the machine, which every part of a file has; what they hand back has them too. It rests on `layout` for
 // reading, on `moment` for times and on `entries` for AS numbers.
+#![tactic(auto)]
+
 ghost use Rattle.std.specs.Prelude.{◌≡◌, ◌<◌, ◌≤◌, length, IfOk};
 ghost use Rattle.moment.specs.Calendar.{number_in};
 ghost use Rattle.element.specs.Reading.{Placed, seen, octets_of};

@@ -6,6 +6,8 @@
 // by `?`, and every conversion promises that the report stays the same. `LayerFault` is what the readers that serve
 // every layer ask of a fault type. It rests on `fault` for the reports of elements and sets, and on `layout` for
 // `LayerFault`.
+#![tactic(auto)]
+
 ghost use Rattle.std.specs.Prelude.{◌≡◌};
 ghost use Rattle.fault.specs.Faults.{element_report, set_report};
 ghost use Rattle.fault.specs.declared.Layer.TheVariants.{Certificate, Crl, Content, Shell};

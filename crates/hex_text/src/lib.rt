@@ -4,6 +4,8 @@
 // digits of some octets to a text; `all_digits` says whether each character is a digit, `nibble` what a digit is worth, and `octet` what two are. Each answers
 // what `unhex`, `hexText`, `allDigits`, `nibbleOf` and `octetOf` of specs/Digits.antt define. The contracts of `decode` and `push_octets` also say that nothing is
 // lost: what is written is read as the same octets, and what is read is written as the same digits in lower case. The crate rests on `std` alone.
+#![tactic(auto)]
+
 ghost use Rattle.std.specs.Prelude.{◌≡◌, ◌/◌, ◌%◌, ◌<◌, ◌&&◌, [], ◌∷◌, ◌++◌, length, is_some, IfSome, IfOk, vec_items, string_bytes, OnOk, ◌==◌};
 ghost use Rattle.std.specs.Option.{option_map};
 ghost use Rattle.hex_text.specs.Digits.{nibble_of, octet_of, unhex, all_digits, digit_of, hex_text};

@@ -3,6 +3,8 @@
 // `next`, `expect` and `end` serve every layer: they are generic over the layer's own fault type, whose faults say
 // that an element is missing, has a wrong tag or is one too many. A missing element is reported at the end of the
 // content that lacks it, every other fault at the offending tag. They rest on `element` for reading.
+#![tactic(auto)]
+
 ghost use Rattle.std.specs.Prelude.{◌≡◌, IfOk};
 ghost use Rattle.fault.specs.declared.Rule.{Rule};
 ghost use Rattle.fault.specs.declared.Layer.{Layer};

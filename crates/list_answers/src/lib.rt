@@ -4,6 +4,8 @@
 // both stand. Each makes its call and gives the answer with a newline: the text is a definition in specs/Replies.antt over the definition of the call's
 // result, and each function promises just that text. It rests on `ranges`, `list_writer` and `resources` for the calls,
 // on `list_text` for lists as text and on `hex` for octets.
+#![tactic(auto)]
+
 ghost use Rattle.std.specs.Prelude.{◌≡◌, ◌≤◌, ◌++◌, length, take, IfOk, string_bytes};
 ghost use Rattle.fault.specs.Faults.{set_report, reported};
 ghost use Rattle.fault.specs.declared.Layer.TheVariants.{Set};

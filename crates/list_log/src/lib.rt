@@ -8,6 +8,8 @@
 // A further call is a variant of `Call` and of `Name`, an `if` in `read_name` and an arm in `read_call`, with its lines in specs/ (`Asked`, `spelt`,
 // `calls`, `argumentsOf`, `LawfulCall`, `call_words`, `asked`) and in proofs/Calls.antt (`arguments-inv`, `whole-written`, `words-call`, `loud-call`).
 // A further kind of value for `read` is a variant of `Form` in `arguments` alone.
+#![tactic(auto)]
+
 ghost use Rattle.std.specs.Prelude.{◌≡◌, true, not, IfOk};
 ghost use Rattle.std.specs.Str.{bytes_eq};
 ghost use Rattle.pieces.specs.Marks.{lacking};

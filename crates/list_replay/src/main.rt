@@ -1,4 +1,6 @@
 // The program: the calls of a log whose lines may also join, write and read lists of resources.
+#![tactic(auto)]
+
 mod files;
 mod lines;
 mod replaying;

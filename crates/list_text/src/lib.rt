@@ -4,6 +4,8 @@
 // it, and `push_list` appends the text of a list. A word is read as a list exactly where it is the list's text, as specs/Lists.antt says it, but for what
 // the kind of points does not tell apart; what is printed is read as the same list. Nothing is said of the order of the ranges: a list need not be
 // lawful to be written. It rests on `point_text` for the points and on `pieces` for the parts of a word.
+#![tactic(auto)]
+
 ghost use Rattle.std.specs.Prelude.{◌≡◌, ◌∷◌, ◌++◌, is_some, IfOk, Some, vec_items, string_bytes, codes, OnOk};
 ghost use Rattle.std.specs.Option.{option_map};
 ghost use Rattle.std.specs.Str.{bytes_eq};

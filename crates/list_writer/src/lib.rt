@@ -6,6 +6,8 @@
 // kind of points: what is written for a lawful list reads back with nothing over, and the content of a list that was read,
 // written again, is the same octets. It rests on `entry_writer` for one entry, on `element` for the header and on `lists` for
 // what reading a list is.
+#![tactic(auto)]
+
 ghost use Rattle.std.specs.Prelude.{◌≡◌, ℕ, ◌+◌, ◌≤◌, true, length, take, IfOk};
 ghost use Rattle.element.specs.Writing.{laid};
 ghost use Rattle.entry_writer.specs.Areas.{laid_at};

@@ -5,6 +5,8 @@
 // `texts_stand` says that it is the text of one list of lawful payloads only. Every piece is written as far as the
 // area goes, so that the same code measures a line, in an area without room, and writes it; `put_head` and `put_line`
 // do so for one line, for whoever compares a line with another text. It rests on `payload` for the list.
+#![tactic(auto)]
+
 ghost use Rattle.std.specs.Prelude.{◌≡◌, ℕ, ◌+◌, ◌^◌, ◌<◌, ◌≤◌, true, [], ◌∷◌, ◌++◌, length, drop, decimal};
 ghost use Rattle.payload.specs.Lists.{held};
 ghost use Rattle.listing.specs.Laws.{TextTells};

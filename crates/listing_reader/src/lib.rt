@@ -6,6 +6,8 @@
 // read is the text of what was read, so that each list has one text. A line is read by looking where the parts of a line
 // stand, and then has to be, octet for octet, what `listing` prints of the payload that was found.
 // The crate rests on `payload` for the list, on `listing` for what is printed and on `route_text` for numbers and prefixes.
+#![tactic(auto)]
+
 ghost use Rattle.std.specs.Prelude.{◌≡◌, ℕ, ◌+◌, ◌^◌, ◌<◌, ◌≤◌, true, [], ◌∷◌, ◌++◌, length, drop, IfSome};
 ghost use Rattle.std.specs.Option.{option_map};
 ghost use Rattle.payload.specs.Lists.{held, room};

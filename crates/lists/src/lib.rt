@@ -2,6 +2,8 @@
 //
 // `read_entries` reads the entries of any kind of points into a lent table of full size: each in its own form, in
 // ascending order with a point missing between two, at most 256. It rests on `entries` for the single entry.
+#![tactic(auto)]
+
 ghost use Rattle.std.specs.Prelude.{◌≡◌, ℕ, ◌-◌, ◌<◌, ◌≤◌, length, None, OnOk, slice_set};
 ghost use Rattle.fault.specs.Faults.{set_report, reported};
 ghost use Rattle.element.specs.Reading.{seen, octets_of, Placed};

@@ -8,6 +8,8 @@
 // name while reading. The caller lends `MOST_ENTRIES` records and as many spots for notes; the octets are those of a
 // file, at most 65,535, which hold no more entries. specs/Manifests.antt has what a manifest is. It rests on `fields`,
 // `names` and `layout` for the single elements.
+#![tactic(auto)]
+
 ghost use Rattle.std.specs.Prelude.{◌≡◌, ◌+◌, ◌<◌, ◌≤◌, length, drop, IfOk};
 ghost use Rattle.std.specs.Str.{bytes_eq};
 ghost use Rattle.repeats.specs.Reading.{unless_repeat};

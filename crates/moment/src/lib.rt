@@ -5,6 +5,8 @@
 // octets are that form of a moment, and none for any others; no content has two moments, and every moment (of the years 1950
 // to 2049 for a UTCTime) has one content. No call asks anything of its caller, and all rests on the calendar's rule and the
 // decimal digits alone, as specs/Calendar.antt and specs/Times.antt state them.
+#![tactic(auto)]
+
 ghost use Rattle.std.specs.Prelude.{◌≡◌, ℕ, ◌+◌, ◌/◌, ◌^◌, ◌<◌, ◌≤◌, true, length, IfSome, Decides, MatchOption};
 ghost use Rattle.moment.specs.Calendar.{leap, days_in, is_day, is_time, is_moment, IsMoment, moment_of, number_in};
 ghost use Rattle.moment.specs.Times.{decimal_after, zulu_of, full_year, utc_of, generalized_of, noted, UtcTime, GeneralizedTime, UtcOneMoment, UtcOneContent, GeneralizedOneMoment, GeneralizedOneContent};

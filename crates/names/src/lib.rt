@@ -3,6 +3,8 @@
 // A name has 1 to 128 visible octets with a "/" that is not the last of them; its folder runs through its last "/". A bare
 // name stands after a folder, so it has no "/". The calls answer whether octets are such, or how far their folder runs, for
 // all octets; none asks anything of its caller, and all rest on the octets alone.
+#![tactic(auto)]
+
 ghost use Rattle.std.specs.Prelude.{◌≡◌, ◌≤◌, true, length, drop, Decides, MatchOption};
 ghost use Rattle.std.specs.Str.{bytes_eq};
 ghost use Rattle.names.specs.declared.Ending.{Ending as OneEnding};

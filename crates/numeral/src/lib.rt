@@ -3,6 +3,8 @@
 // `read_number` reads a word as a number from 0 to a largest one, which the caller names. It answers the number exactly where the word is the number's
 // decimal text: digits alone, no sign, and no zero in front but in `0`. Any other word, and a larger number, is none. Nothing is allocated. It rests
 // on `std` alone.
+#![tactic(auto)]
+
 ghost use Rattle.std.specs.Prelude.{◌≡◌, ◌≤◌, IfSome, Some};
 ghost use Rattle.numeral.specs.Numbers.{grown, number_from, plain, number_of, ReadsNumber};
 

@@ -5,6 +5,8 @@
 // what is proved of code over `O: Oracle` holds for every implementation. `Scheme` is the test scheme, whose
 // digest is the exclusive-or of the blocks of 32 octets, and `Silent` says no to all. `vouches` is a caller. It
 // rests on nothing but the standard library.
+#![tactic(auto)]
+
 ghost use Rattle.std.specs.Prelude.{◌≡◌, ℕ, ◌<◌, Bool, true, false, List, ◌++◌, replicate, Some, None, Decides, Option};
 ghost use Rattle.oracle.specs.Runs.{xor_run};
 ghost use Rattle.oracle.specs.Scheme.{scheme_digest, scheme_verdict};

@@ -1,4 +1,5 @@
 // Trials of the oracles: a book that the writer filled, asked by the walk and by its index, and the test scheme.
+#![tactic(auto)]
 
 #[cfg(test)]
 mod tests {

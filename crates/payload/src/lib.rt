@@ -10,6 +10,8 @@
 // That the list is in order stands in its type, so no call asks anything of its caller.
 // specs/Order.antt and specs/Lists.antt have what each call promises, and specs/Laws.antt what the order is worth:
 // payloads have one list. The crate rests on `std` alone.
+#![tactic(auto)]
+
 ghost use Rattle.std.specs.Prelude.{◌≡◌, ◌+◌, ◌-◌, ◌/◌, ◌%◌, ◌^◌, ◌<◌, ◌≤◌, true, Decides};
 ghost use Rattle.std.specs.Ordering.{MatchOrdering};
 ghost use Rattle.payload.specs.Order.{rank, width, lawful, Small};

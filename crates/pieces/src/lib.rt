@@ -4,6 +4,8 @@
 // only where no piece is left. Two marks in a row have an empty
 // piece between them, so that the pieces with a mark between each two are the text, and no piece holds the mark; `of` promises both. What is read is
 // lent from the text, and nothing is allocated. It rests on `std` alone.
+#![tactic(auto)]
+
 ghost use Rattle.std.specs.Prelude.{◌≡◌, ℕ, ◌≤◌, true, length};
 ghost use Rattle.std.specs.List.{AllByRecursion as All};
 ghost use Rattle.pieces.specs.Marks.{pieces_of, joined, lacking, piece_end, pieces_past, take_piece, beside, at_end};

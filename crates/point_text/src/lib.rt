@@ -4,6 +4,8 @@
 // speaks of the text alone, so that code over `PointText` serves every kind: a word is read as a point exactly where it is the point's text, but for
 // the case of the digits of an IPv6 address, which are printed in lower case. Numbers have no zeros in front, and a number that is out of its kind,
 // as 256 in an address, is no point. It rests on `points` for the kinds, on `pieces`, `numeral` and `hex` for the parts of a text.
+#![tactic(auto)]
+
 ghost use Rattle.std.specs.Prelude.{◌≡◌, ℕ, ◌<◌, ◌≤◌, true, List, ◌∷◌, ◌++◌, map, IfSome, Some, string_bytes, decimal, Option, OnOk};
 ghost use Rattle.std.specs.Char.{to_ascii_lowercase};
 ghost use Rattle.numeral.specs.Numbers.{number_of};

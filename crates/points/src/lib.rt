@@ -4,6 +4,8 @@
 // point below the last has a next one. The calls compare two points, and give the first and the last; what they promise speaks
 // of the numbers alone, so that code over `Point` is written and proved once for every kind. A further kind costs its own
 // order: the members, the three laws and the four calls. It rests on no other crate.
+#![tactic(auto)]
+
 ghost use Rattle.std.specs.Prelude.{◌≡◌, ℕ, ◌+◌, ◌-◌, ◌^◌, ◌<◌, ◌≤◌, Decides, refl};
 ghost use Rattle.points.specs.Ranks.{v4_rank, v4_fits, v6_rank, v6_fits, asn_rank, asn_fits};
 ghost use Rattle.std.proofs.Common.{arith, rules, inl, inr};

@@ -8,6 +8,8 @@
 // `unused` and `octet_at` the bit string of so many bits of an address. What is written is read back, no range has two bit
 // strings, and the last bit tells the fewest. No call asks anything of its caller, and all rests on binary and base 256
 // digits alone, as the files of specs/ state them.
+#![tactic(auto)]
+
 ghost use Rattle.std.specs.Prelude.{◌≡◌, ◌+◌, ◌-◌, ◌*◌, ◌/◌, ◌%◌, ◌^◌, ◌<◌, ◌≤◌, true, length, IfSome, Decides, MatchOption, ◌==◌, slice_index};
 ghost use Rattle.prefixes.specs.Widths.{bits_in};
 ghost use Rattle.prefixes.specs.Reading.{is_bit_string, readable, Readable, low_of, low_end, high_end, LowEnd, HighEnd, last_bit, LastBit};

@@ -6,6 +6,8 @@
 // or none where no whole record of this shape stands there. The records of a book are those read so one after
 // another, and octets appended to a book leave its records in their places. It rests on nothing but the
 // standard library.
+#![tactic(auto)]
+
 ghost use Rattle.std.specs.Prelude.{◌≡◌, ◌≤◌, length, IfSome};
 ghost use Rattle.record.specs.Format.{end_of, field_of, digest_only, digest_record, verdict_record, record_of};
 ghost use Rattle.record.specs.Views.{field_seen, reading_seen};

@@ -8,6 +8,8 @@
 // logarithm on others, has the proof that the order is right: no choice of strings makes it slow.
 // specs/Repeats.antt has what the calls promise, and specs/Reading.antt that to look for repeats after a reading is the
 // same as to look while reading. The callers number the spots from 0, as `note` does. The crate rests on `std` alone.
+#![tactic(auto)]
+
 ghost use Rattle.std.specs.Prelude.{◌≡◌, ℕ, ◌+◌, ◌<◌, ◌≤◌, true, List, [], ◌∷◌, ◌++◌, length, take, drop, MatchOption};
 ghost use Rattle.std.specs.List.Sorted.{IsPermutation};
 ghost use Rattle.std.specs.Str.{bytes_eq};

@@ -3,6 +3,8 @@
 // Each `.._answer` makes one call and gives its answer with a newline. The text is a definition in
 // specs/Answers.antt over the definition of the call's result, and each function promises just that text.
 // It rests on `element` for the reading, on `oracle` for who is asked and on `hex` for octets.
+#![tactic(auto)]
+
 ghost use Rattle.std.specs.Prelude.{◌≡◌, IfOk, Ok, string_bytes};
 ghost use Rattle.hex_text.specs.Digits.{hex_text};
 ghost use Rattle.element.specs.Reading.{seen, octets_of, read_of};

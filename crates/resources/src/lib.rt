@@ -5,6 +5,8 @@
 // a list, and the caller says by `May` what may stand there. The ranges of a list stand at the front of the lent table of
 // its kind. A list of no entries is refused, so that it is never taken for an inherited part, and a list that was read is lawful.
 // It rests on `lists` for the entries of a list and on `layout` for what a layout wants.
+#![tactic(auto)]
+
 ghost use Rattle.std.specs.Prelude.{◌≡◌, length, IfOk};
 ghost use Rattle.fault.specs.declared.Layer.TheVariants.{Set};
 ghost use Rattle.fault.specs.Faults.{set_report, reported};

@@ -3,6 +3,8 @@
 // `read_roa` reads it into a lent table of full size: the rows of IPv4 and then those of IPv6, at most 256 of each, at the front of the table
 // in their order, and past them what stood there before. It answers the AS and how many rows there are, or the first fault in its place.
 // It rests on `fields`, `families` and `layout` for the layout, on `prefixes` for the bits of an address and on `entries` for numbers.
+#![tactic(auto)]
+
 ghost use Rattle.std.specs.Prelude.{◌≡◌, ◌+◌, ◌*◌, ◌^◌, ◌<◌, ◌≤◌, length, take, drop, IfOk, OnOk};
 ghost use Rattle.fault.specs.Faults.{reported};
 ghost use Rattle.fault.specs.declared.Layer.TheVariants.{Content as ContentLayerOf};

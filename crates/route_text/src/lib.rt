@@ -6,6 +6,8 @@
 // case; a number has no leading zeros. A prefix need not be lawful: whoever judges it refuses it by its number.
 // `words_stand` says that the printed form of a number, a lawful prefix, a route and an origin is read as itself.
 // The crate rests on `hex` for digits, on `payload` for prefixes and on `listing` for what is printed.
+#![tactic(auto)]
+
 ghost use Rattle.std.specs.Prelude.{◌≡◌, ◌+◌, ◌*◌, ◌^◌, ◌<◌, ◌≤◌, true, IfSome};
 ghost use Rattle.std.specs.Option.{option_map};
 ghost use Rattle.route_text.specs.Pieces.{beside, after_word, is_digit, with_digit, digits_from, number_from, number_of, octet_of, octet_dot, quad_of, grow, four_of, starts_hex, group_of, past_colon, run_of, with_group, groups_of, joined, six_from, six_of, addressed, address_of, length_of, prefix_of};

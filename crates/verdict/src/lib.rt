@@ -7,6 +7,8 @@
 // payload stands to a route: whether it covers it, and why it does not match it. `verdicts_stand` has the laws: the verdict depends on the
 // payloads that cover the route alone. Where every prefix of the list is lawful, only the payloads of the at most
 // 33 or 129 prefixes that cover the route are looked at, and else all. It rests on `payload` for the list.
+#![tactic(auto)]
+
 ghost use Rattle.std.specs.Prelude.{◌≡◌, ℕ, ◌-◌, ◌*◌, ◌/◌, ◌^◌, ◌≤◌, Bool, true};
 ghost use Rattle.payload.specs.Lists.{held};
 ghost use Rattle.payload.specs.Order.{lawful, all_lawful};

@@ -1,4 +1,5 @@
 // Trials of routes, printed lists and verdicts. The addresses were worked out by another library, the rest by hand.
+#![tactic(auto)]
 
 #[cfg(test)]
 mod tests {

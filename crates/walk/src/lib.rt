@@ -4,6 +4,8 @@
 // `Walk::step` reads one element there and enters it where its tag says that elements stand inside. Each
 // element that it gives is the one that reading the octets at its place gives, each step goes forward, and
 // nesting takes room on the heap, never on the stack. It rests on `element`.
+#![tactic(auto)]
+
 ghost use Rattle.std.specs.Prelude.{◌≡◌, ◌+◌, ◌-◌, ◌<◌, ◌≤◌, [], length, IfSome, IfOk, if◌then◌else◌, vec_len, slice_index};
 ghost use Rattle.walk.specs.declared.WalkError.TheVariants.{Fault, Memory};
 ghost use Rattle.walk.specs.Steps.{opens, limit_of, node_seen, Stepped};

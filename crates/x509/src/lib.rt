@@ -3,6 +3,8 @@
 // `open` gives the OID of an extension and the octets after it, `value_octets` the OCTET STRING that holds the value, where the flag
 // before it is as the extension's criticality wants it. `key_identifier` takes a key id out of a value, and `seal` reads what follows the
 // signed part: the algorithm once more, and the signature. They serve every layer, by its own fault type, and rest on `layout` and `fields`.
+#![tactic(auto)]
+
 ghost use Rattle.std.specs.Prelude.{◌≡◌, ◌≤◌, true, length, IfSome, IfOk};
 ghost use Rattle.std.specs.Option.{option_map};
 ghost use Rattle.std.specs.Str.{bytes_eq};

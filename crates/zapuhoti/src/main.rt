@@ -1,4 +1,6 @@
 // The program: a thin layer over the libraries, which reads files and prints what they answer.
+#![tactic(auto)]
+
 mod dumping;
 mod files;
 mod filling;

@@ -6,27 +6,27 @@ use Rattle.file_faults.specs.Reports.{certificate_report}
 use Rattle.access.specs.Access.{described, names_in}
 use Rattle.access.proofs.read_row.Goals as goal
 
-pub returns-in-err-description : goal.returns-in-err-description
-returns-in-err-description c =
+pub returns-in_err-description : goal.returns-in_err-description
+returns-in_err-description c =
     let l = c.loop-rest in
-    let p = err_from_is_err_and c.from-residual.result c.from-residual.ensures.1 in
-    let e = no-element described (names_in l.found) (octets_of l.rest) c.in-err-description.field-0.0 (some_left _ c.loop-rest-test.ensures) c.in-err-description.ensures.value in
+    let p = err_from_is_err_and c.from_residual.result c.from_residual.ensures.1 in
+    let e = no-element described (names_in l.found) (octets_of l.rest) c.in_err-description.field-0.0 (some_left _ c.loop-rest-test.ensures) c.in_err-description.ensures.value in
     rw p.1 (rw p.2 (sym (l.invariant.1 ∙ e)))
 
-pub returns-in-err-found : goal.returns-in-err-found
-returns-in-err-found c =
+pub returns-in_err-found : goal.returns-in_err-found
+returns-in_err-found c =
     let l = c.loop-rest in
-    let p = err_from_is_err_and c.from-residual-in-err-found.result c.from-residual-in-err-found.ensures.1 in
-    let e = refused described (names_in l.found) (octets_of l.rest) (seen c.in-ok-description.description) (octets_of c.in-ok-description.following) (certificate_report c.in-err-found.field-0.0) (some_left _ c.loop-rest-test.ensures)
-    c.in-ok-description.ensures.value c.in-err-found.ensures in
+    let p = err_from_is_err_and c.from_residual-in_err-found.result c.from_residual-in_err-found.ensures.1 in
+    let e = refused described (names_in l.found) (octets_of l.rest) (seen c.in_ok-description.description) (octets_of c.in_ok-description.following) (certificate_report c.in_err-found.field-0.0) (some_left _ c.loop-rest-test.ensures)
+    c.in_ok-description.ensures.value c.in_err-found.ensures in
     rw p.1 (rw p.2 (sym (l.invariant.1 ∙ e)))
 
 pub loop-rest-preserved : goal.loop-rest-preserved
 loop-rest-preserved c =
     let l = c.loop-rest in (
-      c.in-ok-description.ensures.placed.1,
-      l.invariant.1 ∙ taken described (names_in l.found) (names_in c.in-ok-found.found) (octets_of l.rest) (seen c.in-ok-description.description) (octets_of c.in-ok-description.following) (some_left _ c.loop-rest-test.ensures)
-          c.in-ok-description.ensures.value c.in-ok-found.ensures,
+      c.in_ok-description.ensures.placed.1,
+      l.invariant.1 ∙ taken described (names_in l.found) (names_in c.in_ok-found.found) (octets_of l.rest) (seen c.in_ok-description.description) (octets_of c.in_ok-description.following) (some_left _ c.loop-rest-test.ensures)
+          c.in_ok-description.ensures.value c.in_ok-found.ensures,
     )
 
 pub returns : goal.returns

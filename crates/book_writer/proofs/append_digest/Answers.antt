@@ -5,21 +5,21 @@ use Rattle.record.specs.Writing.{field_octets, record_octets}
 use Rattle.book_writer.proofs.Appends.{appended_more, appended_part}
 use Rattle.book_writer.proofs.append_digest.Goals as goal
 
-pub returns-in-err-append-field : goal.returns-in-err-append-field
-returns-in-err-append-field c =
-    let r = c.from-residual-in-err-append-field in
+pub returns-in_err-append_field : goal.returns-in_err-append_field
+returns-in_err-append_field c =
+    let r = c.from_residual-in_err-append_field in
     let p = err_from_is_err_and r.result r.ensures.1 in
-    appended_part r.result p.0 (vec_items c.args.book.now) (vec_items c.push.new.self) (vec_items c.append-field.new.book)
+    appended_part r.result p.0 (vec_items c.args.book.now) (vec_items c.push.new.self) (vec_items c.append_field.new.book)
     (0x44 ∷ []) (record_octets (Known c.args.octets.now c.args.digest.now))
-    p.1 c.in-ok-push.ensures.items c.in-err-append-field.ensures
+    p.1 c.in_ok-push.ensures.items c.in_err-append_field.ensures
 
 pub returns : goal.returns
 returns c =
     let book = vec_items c.args.book.now in
     let octets = field_octets c.args.octets.now in
     let digest = field_octets c.args.digest.now in
-    let end = vec_items c.append-field-2.new.book in
-    appended_more c.append-field-2.result book (vec_items c.push.new.self) end (0x44 ∷ []) (octets ++ digest)
-    c.in-ok-push.ensures.items
-    (appended_more c.append-field-2.result (vec_items c.push.new.self) (vec_items c.append-field.new.book) end octets digest
-    c.in-ok-append-field.ensures c.append-field-2.ensures)
+    let end = vec_items c.append_field-2.new.book in
+    appended_more c.append_field-2.result book (vec_items c.push.new.self) end (0x44 ∷ []) (octets ++ digest)
+    c.in_ok-push.ensures.items
+    (appended_more c.append_field-2.result (vec_items c.push.new.self) (vec_items c.append_field.new.book) end octets digest
+    c.in_ok-append_field.ensures c.append_field-2.ensures)

@@ -6,6 +6,6 @@ use Rattle.book_writer.proofs.append_field.Goals as goal
 pub returns : goal.returns
 returns c =
     let field = c.args.octets.now in
-    appended_last c.extend-from-slice-2.result (vec_items c.args.book.now) (vec_items c.extend-from-slice.new.self) (vec_items c.extend-from-slice-2.new.self)
+    appended_last c.extend_from_slice-2.result (vec_items c.args.book.now) (vec_items c.extend_from_slice.new.self) (vec_items c.extend_from_slice-2.new.self)
     (length_octets (length field)) field
-    c.in-ok-extend-from-slice.ensures.items c.extend-from-slice-2.ensures.items
+    c.in_ok-extend_from_slice.ensures.items c.extend_from_slice-2.ensures.items

@@ -6,7 +6,7 @@ use Rattle.content.proofs.is_oid.Goals as goal
 use Rattle.content.proofs.is_oid.Goals.{else-begins-via-then-begins+else-octet, else-begins-via-else-begins}
 
 pub returns-then-octet : goal.returns-then-octet
-returns-then-octet c = arcs_sum _ _ c.if-is-empty.ensures (sym (arcs_here _ _ _ c.loop-octet-test.true c.if-begins.true c.if-octet.true) ∙ c.loop-octet.invariant)
+returns-then-octet c = arcs_sum _ _ c.if-is_empty.ensures (sym (arcs_here _ _ _ c.loop-octet-test.true c.if-begins.true c.if-octet.true) ∙ c.loop-octet.invariant)
 
 pub loop-octet-preserved : goal.loop-octet-preserved
 loop-octet-preserved c =
@@ -16,4 +16,4 @@ loop-octet-preserved c =
     ]
 
 pub returns : goal.returns
-returns c = arcs_sum _ _ c.if-is-empty.ensures (sym (at_drop_all (arcs c.loop-octet.begins) c.args.content.now c.loop-octet.octet-index c.loop-octet-test.false) ∙ c.loop-octet.invariant)
+returns c = arcs_sum _ _ c.if-is_empty.ensures (sym (at_drop_all (arcs c.loop-octet.begins) c.args.content.now c.loop-octet.octet-index c.loop-octet-test.false) ∙ c.loop-octet.invariant)

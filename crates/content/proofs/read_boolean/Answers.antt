@@ -4,14 +4,14 @@ use Rattle.content.specs.Grammar.{BooleanValue}
 use Rattle.content.proofs.Valued.{as-value, as_none, boolean_valued}
 use Rattle.content.proofs.read_boolean.Goals as goal
 
-pub returns-then-not-is-boolean : goal.returns-then-not-is-boolean
-returns-then-not-is-boolean c =
+pub returns-then-not-is_boolean : goal.returns-then-not-is_boolean
+returns-then-not-is_boolean c =
     let s = c.args.content.now in
-    let p = as_none BooleanValue s (eqb (get_or s 0 0) 255) (boolean_form s) c.if-not-is-boolean.ensures (boolean_valued s) in
+    let p = as_none BooleanValue s (eqb (get_or s 0 0) 255) (boolean_form s) c.if-not-is_boolean.ensures (boolean_valued s) in
     record { value = p.0; grammar = p.1 }
 
 pub returns : goal.returns
 returns c =
     let s = c.args.content.now in
-    let p = as-value BooleanValue s (eqb (get_or s 0 0) 255) (boolean_form s) c.if-not-is-boolean.ensures (boolean_valued s) in
+    let p = as-value BooleanValue s (eqb (get_or s 0 0) 255) (boolean_form s) c.if-not-is_boolean.ensures (boolean_valued s) in
     record { value = p.0; grammar = p.1 }

@@ -6,27 +6,27 @@ use Rattle.file_faults.specs.Reports.{crl_report}
 use Rattle.crl.specs.Extensions.{extension_step, found_in}
 use Rattle.crl.proofs.read_row_of_extensions.Goals as goal
 
-pub returns-in-err-extension : goal.returns-in-err-extension
-returns-in-err-extension c =
+pub returns-in_err-extension : goal.returns-in_err-extension
+returns-in_err-extension c =
     let l = c.loop-rest in
-    let p = err_from_is_err_and c.from-residual.result c.from-residual.ensures.1 in
-    let e = no-element extension_step (found_in l.found) (octets_of l.rest) c.in-err-extension.field-0.0 (some_left _ c.loop-rest-test.ensures) c.in-err-extension.ensures.value in
+    let p = err_from_is_err_and c.from_residual.result c.from_residual.ensures.1 in
+    let e = no-element extension_step (found_in l.found) (octets_of l.rest) c.in_err-extension.field-0.0 (some_left _ c.loop-rest-test.ensures) c.in_err-extension.ensures.value in
     rw p.1 (rw p.2 (sym (l.invariant.1 ∙ e)))
 
-pub returns-in-err-found : goal.returns-in-err-found
-returns-in-err-found c =
+pub returns-in_err-found : goal.returns-in_err-found
+returns-in_err-found c =
     let l = c.loop-rest in
-    let p = err_from_is_err_and c.from-residual-in-err-found.result c.from-residual-in-err-found.ensures.1 in
-    let e = refused extension_step (found_in l.found) (octets_of l.rest) (seen c.in-ok-extension.extension) (octets_of c.in-ok-extension.following) (crl_report c.in-err-found.field-0.0) (some_left _ c.loop-rest-test.ensures)
-    c.in-ok-extension.ensures.value c.in-err-found.ensures in
+    let p = err_from_is_err_and c.from_residual-in_err-found.result c.from_residual-in_err-found.ensures.1 in
+    let e = refused extension_step (found_in l.found) (octets_of l.rest) (seen c.in_ok-extension.extension) (octets_of c.in_ok-extension.following) (crl_report c.in_err-found.field-0.0) (some_left _ c.loop-rest-test.ensures)
+    c.in_ok-extension.ensures.value c.in_err-found.ensures in
     rw p.1 (rw p.2 (sym (l.invariant.1 ∙ e)))
 
 pub loop-rest-preserved : goal.loop-rest-preserved
 loop-rest-preserved c =
     let l = c.loop-rest in (
-      c.in-ok-extension.ensures.placed.1,
-      l.invariant.1 ∙ taken extension_step (found_in l.found) (found_in c.in-ok-found.found) (octets_of l.rest) (seen c.in-ok-extension.extension) (octets_of c.in-ok-extension.following) (some_left _ c.loop-rest-test.ensures)
-          c.in-ok-extension.ensures.value c.in-ok-found.ensures,
+      c.in_ok-extension.ensures.placed.1,
+      l.invariant.1 ∙ taken extension_step (found_in l.found) (found_in c.in_ok-found.found) (octets_of l.rest) (seen c.in_ok-extension.extension) (octets_of c.in_ok-extension.following) (some_left _ c.loop-rest-test.ensures)
+          c.in_ok-extension.ensures.value c.in_ok-found.ensures,
     )
 
 pub returns : goal.returns

@@ -6,27 +6,27 @@ use Rattle.file_faults.specs.Reports.{crl_report}
 use Rattle.crl.specs.Rows.{row_step}
 use Rattle.crl.proofs.read_rows.Goals as goal
 
-pub returns-in-err-row : goal.returns-in-err-row
-returns-in-err-row c =
+pub returns-in_err-row : goal.returns-in_err-row
+returns-in_err-row c =
     let l = c.loop-rest in
-    let p = err_from_is_err_and c.from-residual.result c.from-residual.ensures.1 in
-    let e = no-element row_step tt (octets_of l.rest) c.in-err-row.field-0.0 (some_left _ c.loop-rest-test.ensures) c.in-err-row.ensures.value in
+    let p = err_from_is_err_and c.from_residual.result c.from_residual.ensures.1 in
+    let e = no-element row_step tt (octets_of l.rest) c.in_err-row.field-0.0 (some_left _ c.loop-rest-test.ensures) c.in_err-row.ensures.value in
     rw p.1 (rw p.2 (sym (l.invariant.1 ∙ e)))
 
-pub returns-in-err-read-row : goal.returns-in-err-read-row
-returns-in-err-read-row c =
+pub returns-in_err-read_row : goal.returns-in_err-read_row
+returns-in_err-read_row c =
     let l = c.loop-rest in
-    let p = err_from_is_err_and c.from-residual-in-err-read-row.result c.from-residual-in-err-read-row.ensures.1 in
-    let e = refused row_step tt (octets_of l.rest) (seen c.in-ok-row.row) (octets_of c.in-ok-row.following) (crl_report c.in-err-read-row.field-0.0) (some_left _ c.loop-rest-test.ensures)
-    c.in-ok-row.ensures.value c.in-err-read-row.ensures in
+    let p = err_from_is_err_and c.from_residual-in_err-read_row.result c.from_residual-in_err-read_row.ensures.1 in
+    let e = refused row_step tt (octets_of l.rest) (seen c.in_ok-row.row) (octets_of c.in_ok-row.following) (crl_report c.in_err-read_row.field-0.0) (some_left _ c.loop-rest-test.ensures)
+    c.in_ok-row.ensures.value c.in_err-read_row.ensures in
     rw p.1 (rw p.2 (sym (l.invariant.1 ∙ e)))
 
 pub loop-rest-preserved : goal.loop-rest-preserved
 loop-rest-preserved c =
     let l = c.loop-rest in (
-      c.in-ok-row.ensures.placed.1,
-      l.invariant.1 ∙ taken row_step tt tt (octets_of l.rest) (seen c.in-ok-row.row) (octets_of c.in-ok-row.following) (some_left _ c.loop-rest-test.ensures)
-          c.in-ok-row.ensures.value c.in-ok-read-row.ensures,
+      c.in_ok-row.ensures.placed.1,
+      l.invariant.1 ∙ taken row_step tt tt (octets_of l.rest) (seen c.in_ok-row.row) (octets_of c.in_ok-row.following) (some_left _ c.loop-rest-test.ensures)
+          c.in_ok-row.ensures.value c.in_ok-read_row.ensures,
     )
 
 pub returns : goal.returns

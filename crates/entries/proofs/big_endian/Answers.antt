@@ -2,11 +2,11 @@ use Rattle.std.proofs.Common.{arith}
 use Rattle.entries.proofs.Values.{value_small, value-more, value_all}
 use Rattle.entries.proofs.big_endian.Goals as goal
 
-pub overflow-mul-value : goal.overflow-mul-value
-overflow-mul-value c = let s = value_small c.loop-octet.value c.loop-octet.octet-index c.loop-octet.invariant.1 (omega arith) in omega arith
+pub overflow_mul-value : goal.overflow_mul-value
+overflow_mul-value c = let s = value_small c.loop-octet.value c.loop-octet.octet-index c.loop-octet.invariant.1 (omega arith) in omega arith
 
-pub overflow-add-value : goal.overflow-add-value
-overflow-add-value c = let s = value_small c.loop-octet.value c.loop-octet.octet-index c.loop-octet.invariant.1 (omega arith) in omega arith
+pub overflow_add-value : goal.overflow_add-value
+overflow_add-value c = let s = value_small c.loop-octet.value c.loop-octet.octet-index c.loop-octet.invariant.1 (omega arith) in omega arith
 
 pub loop-octet-preserved : goal.loop-octet-preserved
 loop-octet-preserved c =

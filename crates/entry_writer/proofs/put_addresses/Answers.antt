@@ -2,16 +2,16 @@ use Rattle.std.proofs.Common.{length, sym}
 use Rattle.entry_writer.proofs.Written.{prefix_is, room_as, written_as}
 use Rattle.entry_writer.proofs.put_addresses.Goals as goal
 
-pub put-bit-string-requires : goal.put-bit-string-requires
-put-bit-string-requires c = (
-  c.bit-count-prefix-bits.ensures.most,
+pub put_bit_string-requires : goal.put_bit_string-requires
+put_bit_string-requires c = (
+  c.bit_count_prefix-bits.ensures.most,
   room_as _ _ c.args.at (length c.args.area.now)
-      (prefix_is c.args.width c.args.first c.args.last c.bit-count-prefix-bits.result (sym c.if-is-prefix.ensures.value) c.bit-count-prefix-bits.ensures.value) c.requires,
+      (prefix_is c.args.width c.args.first c.args.last c.bit_count_prefix-bits.result (sym c.if-is_prefix.ensures.value) c.bit_count_prefix-bits.ensures.value) c.requires,
 )
 
-pub returns-then-is-prefix : goal.returns-then-is-prefix
-returns-then-is-prefix c =
-    let w = written_as _ _ c.args.at c.put-bit-string.result c.args.area.now c.put-bit-string.new.area
-    (prefix_is c.args.width c.args.first c.args.last c.bit-count-prefix-bits.result (sym c.if-is-prefix.ensures.value) c.bit-count-prefix-bits.ensures.value)
-    c.put-bit-string.ensures.end c.put-bit-string.ensures.after in
+pub returns-then-is_prefix : goal.returns-then-is_prefix
+returns-then-is_prefix c =
+    let w = written_as _ _ c.args.at c.put_bit_string.result c.args.area.now c.put_bit_string.new.area
+    (prefix_is c.args.width c.args.first c.args.last c.bit_count_prefix-bits.result (sym c.if-is_prefix.ensures.value) c.bit_count_prefix-bits.ensures.value)
+    c.put_bit_string.ensures.end c.put_bit_string.ensures.after in
     record { end = w.0; after = w.1 }

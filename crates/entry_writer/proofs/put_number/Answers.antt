@@ -16,8 +16,8 @@ loop-i-preserved c =
     let room : c.args.at + length text ≤ length c.args.area.now = omega (arith, n, c.requires.1) in
     let less : c.loop-i.i < size = c.loop-i-test.true in
     let l : c.loop-i.i < length text = omega (arith, n, less) in
-    laid-step c.args.at c.loop-i.i c.number-octet.result text c.args.area.now c.loop-i.area room l
-    (octet_there c.args.number size c.loop-i.i _ less c.number-octet.ensures) c.loop-i.invariant
+    laid-step c.args.at c.loop-i.i c.number_octet.result text c.args.area.now c.loop-i.area room l
+    (octet_there c.args.number size c.loop-i.i _ less c.number_octet.ensures) c.loop-i.invariant
 
 pub returns : goal.returns
 returns c =

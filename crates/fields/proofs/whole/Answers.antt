@@ -6,5 +6,5 @@ pub front-requires : goal.front-requires
 front-requires g c = (
   c.requires,
   expected-shorter g.F.LayerFault.layer c.args.tag (octets_of c.args.input)
-      (seen c.in-ok-element.element, octets_of c.in-ok-element.rest) c.in-ok-element.ensures.value,
+      (seen c.in_ok-element.element, octets_of c.in_ok-element.rest) c.in_ok-element.ensures.value,
 )

@@ -4,27 +4,27 @@ use Rattle.std.proofs.lemmas.Bool.{eqb-true, eqb-false}
 use Rattle.hex_text.proofs.Texts.{first_two, after_more, after_refused, after_all, after_odd, writes_back}
 use Rattle.hex_text.proofs.decode.Goals as goal
 
-pub returns-in-default : goal.returns-in-default
-returns-in-default c =
+pub returns-in_default : goal.returns-in_default
+returns-in_default c =
     let s = c.loop-rest.rest.now in
     let two : 2 ≤ length s = omega arith in
-    record { value = after_refused _ s _ _ _ _ (first_two s two) c.in-default.ensures c.loop-rest.invariant; back = writes_back }
+    record { value = after_refused _ s _ _ _ _ (first_two s two) c.in_default.ensures c.loop-rest.invariant; back = writes_back }
 
-pub returns-in-err-push : goal.returns-in-err-push
-returns-in-err-push c = record { value = IfOk-from_err c.from-residual.result _ c.from-residual.ensures.0; back = writes_back }
+pub returns-in_err-push : goal.returns-in_err-push
+returns-in_err-push c = record { value = IfOk-from_err c.from_residual.result _ c.from_residual.ensures.0; back = writes_back }
 
 pub loop-rest-preserved : goal.loop-rest-preserved
 loop-rest-preserved c =
     let s = c.loop-rest.rest.now in
     let two : 2 ≤ length s = omega arith in
-    after_more (vec_items c.loop-rest.octets) (vec_items c.push.new.self) s (take (length s - 2) (drop 2 s)) _ _ _ _ (first_two s two) c.in-Some.ensures c.in-ok-push.ensures.items c.loop-rest.invariant
+    after_more (vec_items c.loop-rest.octets) (vec_items c.push.new.self) s (take (length s - 2) (drop 2 s)) _ _ _ _ (first_two s two) c.in-Some.ensures c.in_ok-push.ensures.items c.loop-rest.invariant
 
-pub returns-then-is-empty : goal.returns-then-is-empty
-returns-then-is-empty c =
-    record { value = after_all _ c.loop-rest.rest.now _ (eqb-true _ _ (sym c.if-is-empty.ensures)) c.loop-rest.invariant; back = writes_back }
+pub returns-then-is_empty : goal.returns-then-is_empty
+returns-then-is_empty c =
+    record { value = after_all _ c.loop-rest.rest.now _ (eqb-true _ _ (sym c.if-is_empty.ensures)) c.loop-rest.invariant; back = writes_back }
 
-pub returns-else-is-empty : goal.returns-else-is-empty
-returns-else-is-empty c =
+pub returns-else-is_empty : goal.returns-else-is_empty
+returns-else-is_empty c =
     let s = c.loop-rest.rest.now in
     let few : length s < 2 = omega arith in
-    record { value = after_odd _ s _ few (eqb-false _ _ (sym c.if-is-empty.ensures)) c.loop-rest.invariant; back = writes_back }
+    record { value = after_odd _ s _ few (eqb-false _ _ (sym c.if-is_empty.ensures)) c.loop-rest.invariant; back = writes_back }

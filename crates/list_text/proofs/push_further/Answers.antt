@@ -7,7 +7,7 @@ pub returns : goal.returns
 returns g c =
     record {
       value =
-          pushed_two (string_bytes c.args.out.now) (string_bytes c.push-str.new.self) (string_bytes c.push-range.new.out) (44 ∷ []) (range_text g.P.PointText.text c.args.range)
-          c.in-ok-push-str.ensures.bytes c.in-ok-push-range.ensures.value;
-      proper = c.in-ok-push-range.ensures.proper;
+          pushed_two (string_bytes c.args.out.now) (string_bytes c.push_str.new.self) (string_bytes c.push_range.new.out) (44 ∷ []) (range_text g.P.PointText.text c.args.range)
+          c.in_ok-push_str.ensures.bytes c.in_ok-push_range.ensures.value;
+      proper = c.in_ok-push_range.ensures.proper;
     }

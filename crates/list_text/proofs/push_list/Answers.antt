@@ -10,6 +10,6 @@ returns g c =
     let some : 0 < length l = search rules in
     let e : c.index-list-0.result ∷ take (length l - 1) (drop 1 l) ≡ l = first_rest l c.index-list-0.result some c.index-list-0.is in
     record {
-      value = c.in-ok-push-ranges.ensures.value ∙ ap (λ ys. string_bytes c.args.out.now ++ list_text p.text ys) e;
-      back = subst (λ ys. list_of p.reads (list_text p.text ys) ≡ Some ys) e c.in-ok-push-ranges.ensures.back;
+      value = c.in_ok-push_ranges.ensures.value ∙ ap (λ ys. string_bytes c.args.out.now ++ list_text p.text ys) e;
+      back = subst (λ ys. list_of p.reads (list_text p.text ys) ≡ Some ys) e c.in_ok-push_ranges.ensures.back;
     }

@@ -7,8 +7,8 @@ returns g c =
     let text = g.P.PointText.text in
     record {
       value =
-          pushed_three (string_bytes c.args.out.now) (string_bytes c.push-point.new.out) (string_bytes c.push-str.new.self) (string_bytes c.push-point-2.new.out)
+          pushed_three (string_bytes c.args.out.now) (string_bytes c.push_point.new.out) (string_bytes c.push_str.new.self) (string_bytes c.push_point-2.new.out)
           (text c.args.range.first) (45 ∷ []) (text c.args.range.last)
-          c.in-ok-push-point.ensures.value c.in-ok-push-str.ensures.bytes c.in-ok-push-point-2.ensures.value;
-      proper = (c.in-ok-push-point.ensures.proper, c.in-ok-push-point-2.ensures.proper);
+          c.in_ok-push_point.ensures.value c.in_ok-push_str.ensures.bytes c.in_ok-push_point-2.ensures.value;
+      proper = (c.in_ok-push_point.ensures.proper, c.in_ok-push_point-2.ensures.proper);
     }

@@ -13,10 +13,10 @@ returns g c =
     let rs = c.args.rest.now in
     record {
       value =
-          pushed_two was (string_bytes c.push-range.new.out) (string_bytes c.push-tail.new.out) (range_text p.text r) (tail_text p.text rs)
-          c.in-ok-push-range.ensures.value c.in-ok-push-tail.ensures.value
+          pushed_two was (string_bytes c.push_range.new.out) (string_bytes c.push_tail.new.out) (range_text p.text r) (tail_text p.text rs)
+          c.in_ok-push_range.ensures.value c.in_ok-push_tail.ensures.value
           ∙ ap (λ (l : List ℕ). was ++ l) (joined_tail p.text r rs);
       back =
           prints_back p.reads p.text p.folded p.proper m.text_read m.read_text m.blind (r ∷ rs)
-          (c.in-ok-push-range.ensures.proper, c.in-ok-push-tail.ensures.proper);
+          (c.in_ok-push_range.ensures.proper, c.in_ok-push_tail.ensures.proper);
     }

@@ -9,7 +9,7 @@ returns t c =
     let n = c.args.number in
     let w : Written (decimal n) c.args.area.now c.args.at c.put.new.area c.put.result =
     elim c.if-number-ge10.branch [
-      | then-number-ge10 w ↦ number_long n _ _ _ _ _ _ w.if-number-ge10.true c.ranges.number.fits w.put-decimal-next.ensures.written (written_from w.area-is w.next-is c.put.ensures.written)
+      | then-number-ge10 w ↦ number_long n _ _ _ _ _ _ w.if-number-ge10.true c.ranges.number.fits w.put_decimal-next.ensures.written (written_from w.area-is w.next-is c.put.ensures.written)
       | else-number-ge10 w ↦ number_short n _ _ _ _ w.if-number-ge10.false (written_from w.area-is w.next-is c.put.ensures.written)
     ] in
     record { written = w; bound = number_bound n _ _ _ _ c.ranges.number.fits w }

@@ -3,4 +3,4 @@ use Rattle.listing.proofs.Writes.{head_all}
 use Rattle.listing.proofs.put_head.Goals as goal
 
 pub returns : goal.returns
-returns c = record { written = head_all c.args.count c.put-word-next.ensures.written c.put-decimal-next.ensures.written c.put-word.ensures.written; bound = omega arith }
+returns c = record { written = head_all c.args.count c.put_word-next.ensures.written c.put_decimal-next.ensures.written c.put_word.ensures.written; bound = omega arith }

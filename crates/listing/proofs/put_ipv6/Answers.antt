@@ -7,14 +7,14 @@ loop-place-init c = (groups_none _ _ _, omega arith)
 
 pub loop-place-preserved : goal.loop-place-preserved
 loop-place-preserved c = (
-  groups_more c.args.address c.loop-place.place c.group-at.result _ _ _ _ _ _ _ _ c.group-at.ensures.value c.loop-place.invariant.0 c.put-group-next.ensures.written c.put-next.ensures.written,
-  omega (arith, c.loop-place.invariant.1, c.put-group-next.ensures.bound, c.put-next.ensures.bound),
+  groups_more c.args.address c.loop-place.place c.group_at.result _ _ _ _ _ _ _ _ c.group_at.ensures.value c.loop-place.invariant.0 c.put_group-next.ensures.written c.put-next.ensures.written,
+  omega (arith, c.loop-place.invariant.1, c.put_group-next.ensures.bound, c.put-next.ensures.bound),
 )
 
 pub returns : goal.returns
 returns c =
     let k : c.loop-place.place ≡ 7 = omega (arith, c.loop-place-test.false, c.loop-place.auto.place-end) in
     record {
-      written = groups_all c.args.address c.loop-place.place c.group-at-2.result _ _ _ _ _ _ k c.group-at-2.ensures.value c.loop-place.invariant.0 c.put-group.ensures.written;
-      bound = omega (arith, c.loop-place.invariant.1, c.put-group.ensures.bound);
+      written = groups_all c.args.address c.loop-place.place c.group_at-2.result _ _ _ _ _ _ k c.group_at-2.ensures.value c.loop-place.invariant.0 c.put_group.ensures.written;
+      bound = omega (arith, c.loop-place.invariant.1, c.put_group.ensures.bound);
     }

@@ -2,13 +2,13 @@ use Rattle.std.proofs.Common.{rules}
 use Rattle.listing_reader.specs.Lines.{head_of}
 use Rattle.listing_reader.proofs.head.Goals as goal
 
-pub returns-in-err-count : goal.returns-in-err-count
+pub returns-in_err-count : goal.returns-in_err-count
 unfolding head_of
-returns-in-err-count c = search rules
+returns-in_err-count c = search rules
 
-pub returns-in-err-rest : goal.returns-in-err-rest
+pub returns-in_err-rest : goal.returns-in_err-rest
 unfolding head_of
-returns-in-err-rest c = search rules
+returns-in_err-rest c = search rules
 
 pub returns : goal.returns
 unfolding head_of

@@ -5,4 +5,4 @@ use Rattle.listing_reader.proofs.past_head.Goals as goal
 
 pub returns : goal.returns
 returns c =
-    c.after-word.ensures ∙ ap (λ (t : List ℕ). after_word t c.args.s.now) (front_is _ _ _ c.put-head-size.result c.put-head-size.ensures.written c.put-head-size.ensures.bound)
+    c.after_word.ensures ∙ ap (λ (t : List ℕ). after_word t c.args.s.now) (front_is _ _ _ c.put_head-size.result c.put_head-size.ensures.written c.put_head-size.ensures.bound)

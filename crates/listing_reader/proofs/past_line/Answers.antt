@@ -5,4 +5,4 @@ use Rattle.listing_reader.proofs.past_line.Goals as goal
 
 pub returns : goal.returns
 returns c =
-    c.after-word.ensures ∙ ap (λ (t : List ℕ). after_word t c.args.s.now) (front_is _ _ _ c.put-line-size.result c.put-line-size.ensures.written c.put-line-size.ensures.bound)
+    c.after_word.ensures ∙ ap (λ (t : List ℕ). after_word t c.args.s.now) (front_is _ _ _ c.put_line-size.result c.put_line-size.ensures.written c.put_line-size.ensures.bound)

@@ -18,16 +18,16 @@ loop-i-preserved c =
     halfway_more c.args.count c.loop-i.i c.args.list.now c.loop-i.list c.add.new.list c.loop-i.rest.now c.args.s.now (c.in-Ok.p, c.in-Ok.after.now) c.loop-i-test.true c.loop-i.invariant
     c.in-Ok.ensures c.add.ensures
 
-pub returns-then-is-empty : goal.returns-then-is-empty
-returns-then-is-empty c =
+pub returns-then-is_empty : goal.returns-then-is_empty
+returns-then-is_empty c =
     record {
-      value = halfway_end c.args.count c.loop-i.i c.args.list.now c.loop-i.list c.loop-i.rest.now c.args.s.now c.loop-i-test.false c.loop-i.invariant (eqb-true (length c.loop-i.rest.now) 0 (sym c.if-is-empty.ensures));
+      value = halfway_end c.args.count c.loop-i.i c.args.list.now c.loop-i.list c.loop-i.rest.now c.args.s.now c.loop-i-test.false c.loop-i.invariant (eqb-true (length c.loop-i.rest.now) 0 (sym c.if-is_empty.ensures));
       rest = halfway_rest c.args.count c.loop-i.i c.args.list.now c.loop-i.list c.loop-i.rest.now c.args.s.now c.loop-i.invariant;
     }
 
-pub returns-else-is-empty : goal.returns-else-is-empty
-returns-else-is-empty c =
+pub returns-else-is_empty : goal.returns-else-is_empty
+returns-else-is_empty c =
     record {
-      value = halfway_surplus c.args.count c.loop-i.i c.args.list.now c.loop-i.list c.loop-i.rest.now c.args.s.now c.loop-i-test.false c.loop-i.auto.i-end c.loop-i.invariant (eqb-false (length c.loop-i.rest.now) 0 (sym c.if-is-empty.ensures));
+      value = halfway_surplus c.args.count c.loop-i.i c.args.list.now c.loop-i.list c.loop-i.rest.now c.args.s.now c.loop-i-test.false c.loop-i.auto.i-end c.loop-i.invariant (eqb-false (length c.loop-i.rest.now) 0 (sym c.if-is_empty.ensures));
       rest = halfway_rest c.args.count c.loop-i.i c.args.list.now c.loop-i.list c.loop-i.rest.now c.args.s.now c.loop-i.invariant;
     }

@@ -9,26 +9,26 @@ use Rattle.lists.proofs.read_entries.Goals as goal
 pub loop-rest-init : goal.loop-rest-init
 loop-rest-init g c = (c.requires.place, begun g.P.Point.rank g.P.Resource.entry (octets_of c.args.content) c.args.table.now c.requires.size)
 
-pub returns-in-err-element : goal.returns-in-err-element
-returns-in-err-element g c =
+pub returns-in_err-element : goal.returns-in_err-element
+returns-in_err-element g c =
     let rank = g.P.Point.rank in
     let entry = g.P.Resource.entry in
     let l = c.loop-rest in
-    let p = err_from_is_err_and c.from-residual.result c.from-residual.ensures.1 in
-    let x = c.in-err-element.field-0.0 in
-    let e = no-element rank entry l.count l.before (octets_of l.rest) x (some_left rank entry _ c.loop-rest-test.ensures) c.in-err-element.ensures.value in
+    let p = err_from_is_err_and c.from_residual.result c.from_residual.ensures.1 in
+    let x = c.in_err-element.field-0.0 in
+    let e = no-element rank entry l.count l.before (octets_of l.rest) x (some_left rank entry _ c.loop-rest-test.ensures) c.in_err-element.ensures.value in
     let f = faulted rank entry (octets_of c.args.content) c.args.table.now l.table l.count l.before (octets_of l.rest) (element_report x) l.invariant.1 e in
     record { value = rw p.1 (rw p.2 f.0); table = f.1 }
 
-pub returns-in-err-range : goal.returns-in-err-range
-returns-in-err-range g c =
+pub returns-in_err-range : goal.returns-in_err-range
+returns-in_err-range g c =
     let rank = g.P.Point.rank in
     let entry = g.P.Resource.entry in
     let l = c.loop-rest in
-    let p = err_from_is_err_and c.from-residual-in-err-range.result c.from-residual-in-err-range.ensures.1 in
-    let x = c.in-err-range.field-0.0 in
-    let e = no-entry rank entry l.count l.before (octets_of l.rest) (seen c.in-ok-element.element) (octets_of c.in-ok-element.following) (set_report x)
-    (some_left rank entry _ c.loop-rest-test.ensures) c.in-ok-element.ensures.value c.in-err-range.ensures.value in
+    let p = err_from_is_err_and c.from_residual-in_err-range.result c.from_residual-in_err-range.ensures.1 in
+    let x = c.in_err-range.field-0.0 in
+    let e = no-entry rank entry l.count l.before (octets_of l.rest) (seen c.in_ok-element.element) (octets_of c.in_ok-element.following) (set_report x)
+    (some_left rank entry _ c.loop-rest-test.ensures) c.in_ok-element.ensures.value c.in_err-range.ensures.value in
     let f = faulted rank entry (octets_of c.args.content) c.args.table.now l.table l.count l.before (octets_of l.rest) (set_report x) l.invariant.1 e in
     record { value = rw p.1 (rw p.2 f.0); table = f.1 }
 
@@ -37,11 +37,11 @@ loop-rest-preserved g c =
     let rank = g.P.Point.rank in
     let entry = g.P.Resource.entry in
     let l = c.loop-rest in (
-      c.in-ok-element.ensures.placed.1,
-      subst (λ (t : List (Range g.row.P.Denot)). Going rank entry (octets_of c.args.content) c.args.table.now t (l.count + 1) (Some c.in-ok-range.range) (octets_of c.in-ok-element.following))
+      c.in_ok-element.ensures.placed.1,
+      subst (λ (t : List (Range g.row.P.Denot)). Going rank entry (octets_of c.args.content) c.args.table.now t (l.count + 1) (Some c.in_ok-range.range) (octets_of c.in_ok-element.following))
           (sym c.store.ensures)
-          (more rank entry (octets_of c.args.content) c.args.table.now l.table l.count l.before (octets_of l.rest) (seen c.in-ok-element.element) (octets_of c.in-ok-element.following) c.in-ok-range.range
-          l.invariant.1 c.in-ok-range.ensures.room (some_left rank entry _ c.loop-rest-test.ensures) c.in-ok-element.ensures.value c.in-ok-range.ensures.value),
+          (more rank entry (octets_of c.args.content) c.args.table.now l.table l.count l.before (octets_of l.rest) (seen c.in_ok-element.element) (octets_of c.in_ok-element.following) c.in_ok-range.range
+          l.invariant.1 c.in_ok-range.ensures.room (some_left rank entry _ c.loop-rest-test.ensures) c.in_ok-element.ensures.value c.in_ok-range.ensures.value),
     )
 
 pub returns : goal.returns

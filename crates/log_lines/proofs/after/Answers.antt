@@ -7,5 +7,5 @@ pub returns : goal.returns
 returns c =
     let w = c.args.word.now in
     let p = c.args.prefix.now in
-    let r = c.strip-prefix.result in
-    stripped_is p w r (strip_prefix_is Decides-eqb w p r c.strip-prefix.ensures.cases)
+    let r = c.strip_prefix.result in
+    stripped_is p w r (strip_prefix_is Decides-eqb w p r c.strip_prefix.ensures.cases)

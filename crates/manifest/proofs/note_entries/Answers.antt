@@ -16,7 +16,7 @@ returns-in-Unread c =
     let l = c.loop-rest in
     let q = octets_of l.rest in
     let g = l.invariant.1 in
-    let e : c.take-entry.new.spots ≡ l.spots = c.in-Unread.ensures.value.1 in
+    let e : c.take_entry.new.spots ≡ l.spots = c.in-Unread.ensures.value.1 in
     let w = room_left l.count _ _ (length l.spots) g.octets c.requires.size (subst (λ (m : ℕ). 1490 ≤ m) (sym c.loop-rest.auto.spots) c.requires.room.1) in (
       g.parts,
       subst (λ (ss : List Spot). NotedAs (octets_of c.args.content) l.count ss g.parts (Err (content_report c.in-Unread.fault))) (sym e)
@@ -29,8 +29,8 @@ returns-in-Named c =
     let q = octets_of l.rest in
     let g = l.invariant.1 in
     let w = room_left l.count _ _ (length l.spots) g.octets c.requires.size (subst (λ (m : ℕ). 1490 ≤ m) (sym c.loop-rest.auto.spots) c.requires.room.1) in
-    let v : l.count + 1 ≤ length c.take-entry.new.spots = subst (λ (m : ℕ). l.count + 1 ≤ m) (sym c.take-entry.auto.spots) w.1 in
-    (_, named (octets_of c.args.content) c.args.table.now q l.count l.spots c.take-entry.new.spots l.table (content_report c.in-Named.fault) v (some_left _ c.loop-rest-test.ensures) c.in-Named.ensures.value g)
+    let v : l.count + 1 ≤ length c.take_entry.new.spots = subst (λ (m : ℕ). l.count + 1 ≤ m) (sym c.take_entry.auto.spots) w.1 in
+    (_, named (octets_of c.args.content) c.args.table.now q l.count l.spots c.take_entry.new.spots l.table (content_report c.in-Named.fault) v (some_left _ c.loop-rest-test.ensures) c.in-Named.ensures.value g)
 
 pub loop-rest-smaller : goal.loop-rest-smaller
 loop-rest-smaller c =
@@ -48,7 +48,7 @@ loop-rest-preserved c =
     let s = entry_size q t.opened t.digest t.opens t.digests in
     let long : 44 + length z.octets ≤ length q.octets = subst (λ (o : Octets). 44 + length o.octets ≤ length q.octets) t.after_is s in (
       c.in-Taken.ensures.placed,
-      more (octets_of c.args.content) c.args.table.now q z l.count l.spots c.take-entry.new.spots l.table c.take-entry.new.table (some_left _ c.loop-rest-test.ensures) long t l.invariant.1,
+      more (octets_of c.args.content) c.args.table.now q z l.count l.spots c.take_entry.new.spots l.table c.take_entry.new.table (some_left _ c.loop-rest-test.ensures) long t l.invariant.1,
     )
 
 pub returns : goal.returns

@@ -4,10 +4,10 @@ use Rattle.manifest.specs.Manifests.{head_and}
 use Rattle.manifest.proofs.Sizes.{row_size}
 use Rattle.manifest.proofs.read_body.Goals as goal
 
-pub read-entries-requires : goal.read-entries-requires
-read-entries-requires c =
-    let h = c.in-ok-head in
-    let p = c.in-ok-row in
+pub read_entries-requires : goal.read_entries-requires
+read_entries-requires c =
+    let h = c.in_ok-head in
+    let p = c.in_ok-row in
     record {
       place = p.ensures.placed.0;
       size = row_size (octets_of c.args.content) (head_and (h.head, h.rest)) (part_of (p.row, p.after)) 65535 h.ensures.value p.ensures.value c.requires.size;

@@ -8,11 +8,11 @@ returns-in-Ok c =
     let q = octets_of c.args.content in
     let n = c.in-Ok.count in
     let e = c.in-Ok.ensures in
-    let us = c.note-entries.new.table in
+    let us = c.note_entries.new.table in
     let h = e.0.1.1 in
     record {
-      value = decides q n c.note-entries.new.spots us e.0.0 (Ok (e.0.1.0, _)) (Ok n) c.repeat-place.result c.unless-repeat.result h refl (c.repeat-place.ensures.value _ _ h.notes) c.unless-repeat.ensures;
-      others = made_unless (λ (m : ℕ). (drop m us ≡ drop m c.args.table.now) × (m ≤ length us)) c.repeat-place.result (Ok n) c.unless-repeat.result (e.1, e.2) c.unless-repeat.ensures;
+      value = decides q n c.note_entries.new.spots us e.0.0 (Ok (e.0.1.0, _)) (Ok n) c.repeat_place.result c.unless_repeat.result h refl (c.repeat_place.ensures.value _ _ h.notes) c.unless_repeat.ensures;
+      others = made_unless (λ (m : ℕ). (drop m us ≡ drop m c.args.table.now) × (m ≤ length us)) c.repeat_place.result (Ok n) c.unless_repeat.result (e.1, e.2) c.unless_repeat.ensures;
     }
 
 pub returns-in-Err : goal.returns-in-Err
@@ -20,8 +20,8 @@ returns-in-Err c =
     let q = octets_of c.args.content in
     let f = c.in-Err.stopped in
     let e = c.in-Err.ensures in
-    let us = c.note-entries.new.table in
+    let us = c.note_entries.new.table in
     record {
-      value = decides q f.noted c.note-entries.new.spots us e.0 (Err _) (Err f.fault) c.repeat-place-in-Err.result c.unless-repeat-in-Err.result e.1 refl (c.repeat-place-in-Err.ensures.value _ _ e.1.notes) c.unless-repeat-in-Err.ensures;
-      others = made_unless (λ (m : ℕ). (drop m us ≡ drop m c.args.table.now) × (m ≤ length us)) c.repeat-place-in-Err.result (Err f.fault) c.unless-repeat-in-Err.result tt c.unless-repeat-in-Err.ensures;
+      value = decides q f.noted c.note_entries.new.spots us e.0 (Err _) (Err f.fault) c.repeat_place-in-Err.result c.unless_repeat-in-Err.result e.1 refl (c.repeat_place-in-Err.ensures.value _ _ e.1.notes) c.unless_repeat-in-Err.ensures;
+      others = made_unless (λ (m : ℕ). (drop m us ≡ drop m c.args.table.now) × (m ≤ length us)) c.repeat_place-in-Err.result (Err f.fault) c.unless_repeat-in-Err.result tt c.unless_repeat-in-Err.ensures;
     }

@@ -3,9 +3,9 @@ use Rattle.layout.specs.Expecting.{part_of}
 use Rattle.manifest.proofs.Sizes.{content_size}
 use Rattle.manifest.proofs.read_manifest.Goals as goal
 
-pub read-body-requires : goal.read-body-requires
-read-body-requires c =
-    let p = c.in-ok-outer in
+pub read_body-requires : goal.read_body-requires
+read_body-requires c =
+    let p = c.in_ok-outer in
     record {
       place = p.ensures.placed.0;
       size = content_size 48 (octets_of c.args.input) (part_of (p.outer, p.after)) 65535 p.ensures.value c.requires.size;

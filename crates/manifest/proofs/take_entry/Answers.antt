@@ -5,16 +5,16 @@ use Rattle.manifest.specs.Manifests.{front_seen}
 use Rattle.manifest.proofs.Entries.{stored}
 use Rattle.manifest.proofs.take_entry.Goals as goal
 
-pub returns-in-Ok-read-digest : goal.returns-in-Ok-read-digest
-returns-in-Ok-read-digest c =
+pub returns-in-Ok-read_digest : goal.returns-in-Ok-read_digest
+returns-in-Ok-read_digest c =
     let ts = c.args.table.now in
     let n = c.args.count in
     record {
       value = record {
         opened = front_seen c.in-Ok.front;
-        digest = octets_of c.in-Ok-read-digest.digest;
+        digest = octets_of c.in-Ok-read_digest.digest;
         opens = sym c.in-Ok.ensures.value;
-        digests = sym c.in-Ok-read-digest.ensures.value;
+        digests = sym c.in-Ok-read_digest.ensures.value;
         after_is = refl;
         notes = c.note.ensures.noted;
         files = stored ts n _ c.requires.room.0;

@@ -3,4 +3,4 @@ use Rattle.names.proofs.Bare.{bare_decides}
 use Rattle.names.proofs.is_bare.Goals as goal
 
 pub returns : goal.returns
-returns c = record { value = c.bare-test.ensures; relation = Decides-at _ _ c.bare-test.ensures (bare_decides c.args.octets.now) }
+returns c = record { value = c.bare_test.ensures; relation = Decides-at _ _ c.bare_test.ensures (bare_decides c.args.octets.now) }

@@ -3,4 +3,4 @@ use Rattle.names.proofs.Tested.{folder_decides}
 use Rattle.names.proofs.is_folder.Goals as goal
 
 pub returns : goal.returns
-returns c = record { value = c.folder-test.ensures; relation = Decides-at _ _ c.folder-test.ensures (folder_decides c.args.octets.now) }
+returns c = record { value = c.folder_test.ensures; relation = Decides-at _ _ c.folder_test.ensures (folder_decides c.args.octets.now) }

@@ -4,4 +4,4 @@ use Rattle.names.proofs.is_manifest_name.Goals as goal
 
 pub returns : goal.returns
 returns c =
-    record { value = c.manifest-test.ensures; relation = Decides-at _ _ c.manifest-test.ensures (manifest_decides c.args.octets.now) }
+    record { value = c.manifest_test.ensures; relation = Decides-at _ _ c.manifest_test.ensures (manifest_decides c.args.octets.now) }

@@ -3,4 +3,4 @@ use Rattle.point_text.proofs.push_group.Goals as goal
 
 pub returns : goal.returns
 unfolding group_text
-returns c = c.push-octets.ensures.value
+returns c = c.push_octets.ensures.value

@@ -6,6 +6,6 @@ use Rattle.point_text.proofs.push_quad.Goals as goal
 pub returns : goal.returns
 returns c =
     let n = c.args.quad in
-    pushed_four (string_bytes c.args.out.now) (string_bytes c.push-group.new.out) (string_bytes c.push-further.new.out) (string_bytes c.push-further-2.new.out) (string_bytes c.push-further-3.new.out)
+    pushed_four (string_bytes c.args.out.now) (string_bytes c.push_group.new.out) (string_bytes c.push_further.new.out) (string_bytes c.push_further-2.new.out) (string_bytes c.push_further-3.new.out)
     (group_text (n / 281474976710656)) (58 ∷ group_text (n / 4294967296 % 65536)) (58 ∷ group_text (n / 65536 % 65536)) (58 ∷ group_text (n % 65536))
-    c.in-ok-push-group.ensures c.in-ok-push-further.ensures c.in-ok-push-further-2.ensures c.in-ok-push-further-3.ensures
+    c.in_ok-push_group.ensures c.in_ok-push_further.ensures c.in_ok-push_further-2.ensures c.in_ok-push_further-3.ensures

@@ -5,5 +5,5 @@ use Rattle.prefixes.proofs.bit_count_high.Goals as goal
 
 pub returns : goal.returns
 returns c =
-    let r = high_count_lem (bits_in c.args.width) c.args.last c.one-tail.result _ c.one-tail.ensures.value (omega arith) in
+    let r = high_count_lem (bits_in c.args.width) c.args.last c.one_tail.result _ c.one_tail.ensures.value (omega arith) in
     record { value = r.0; relation = r.1 }

@@ -5,5 +5,5 @@ use Rattle.prefixes.proofs.bit_count_low.Goals as goal
 
 pub returns : goal.returns
 returns c =
-    let r = low_count_lem (bits_in c.args.width) c.args.first c.zero-tail.result _ c.zero-tail.ensures.value (omega arith) in
+    let r = low_count_lem (bits_in c.args.width) c.args.first c.zero_tail.result _ c.zero_tail.ensures.value (omega arith) in
     record { value = r.0; relation = r.1 }

@@ -3,8 +3,8 @@ use Rattle.std.proofs.lemmas.Nat.{one_shl, pow_pos}
 use Rattle.prefixes.proofs.Octets.{cleared_all}
 use Rattle.prefixes.proofs.cleared.Goals as goal
 
-pub nonzero-rem-result : goal.nonzero-rem-result
-nonzero-rem-result c = omega (arith, one_shl c.args.count 128 c.if-count-lt128.true, pow_pos c.args.count)
+pub nonzero_rem-result : goal.nonzero_rem-result
+nonzero_rem-result c = omega (arith, one_shl c.args.count 128 c.if-count-lt128.true, pow_pos c.args.count)
 
 pub returns-then-count-lt128 : goal.returns-then-count-lt128
 returns-then-count-lt128 c =

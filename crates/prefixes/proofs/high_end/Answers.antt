@@ -12,10 +12,10 @@ answer c =
     let v = c.args.width in
     let e = c.padded.ensures in
     high-answer (bits_in v) c.args.octets.now c.args.unused c.padded.result _ c.ones.result (whole v)
-    c.if-not-is-readable.ensures e.value e.bound (omega arith) c.ones.ensures
+    c.if-not-is_readable.ensures e.value e.bound (omega arith) c.ones.ensures
 
-pub overflow-add-result : goal.overflow-add-result
-overflow-add-result c = omega (arith, below128 c.args.width (c.padded.result + c.ones.result) (answer c).1.below)
+pub overflow_add-result : goal.overflow_add-result
+overflow_add-result c = omega (arith, below128 c.args.width (c.padded.result + c.ones.result) (answer c).1.below)
 
 pub returns : goal.returns
 returns c = let r = answer c in record { value = r.0; relation = r.1; bound = r.1.below }

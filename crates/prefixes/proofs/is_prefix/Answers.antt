@@ -10,5 +10,5 @@ returns c =
     let a = c.args.first in
     let b = c.args.last in
     let r = c.agree.result in
-    let e = prefix_answer w a b c.shared-tail.result r c.shared-tail.ensures.value c.agree.ensures in
+    let e = prefix_answer w a b c.shared_tail.result r c.shared_tail.ensures.value c.agree.ensures in
     record { value = e; relation = Decides-at r (one_prefix w a b) e (prefix_decides w a b) }

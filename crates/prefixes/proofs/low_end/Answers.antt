@@ -2,9 +2,9 @@ use Rattle.prefixes.specs.Widths.{bits_in}
 use Rattle.prefixes.proofs.Ends.{low-answer, whole}
 use Rattle.prefixes.proofs.low_end.Goals as goal
 
-pub returns-then-is-readable : goal.returns-then-is-readable
-returns-then-is-readable c =
+pub returns-then-is_readable : goal.returns-then-is_readable
+returns-then-is_readable c =
     let v = c.args.width in
     let e = c.padded.ensures in
-    let r = low-answer (bits_in v) c.args.octets.now c.args.unused c.padded.result (whole v) c.if-is-readable.ensures e.value e.bound in
+    let r = low-answer (bits_in v) c.args.octets.now c.args.unused c.padded.result (whole v) c.if-is_readable.ensures e.value e.bound in
     record { value = r.0; relation = r.1; bound = e.bound }

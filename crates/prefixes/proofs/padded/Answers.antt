@@ -15,16 +15,16 @@ here c =
     ]
 
 small : (c : goal.After-from) → c.from.result < 256
-small c = omega (arith, here c, c.type-inv.octets c.loop-i.i)
+small c = omega (arith, here c, c.type_inv.octets c.loop-i.i)
 
-pub overflow-mul-address : goal.overflow-mul-address
-overflow-mul-address c =
+pub overflow_mul-address : goal.overflow_mul-address
+overflow_mul-address c =
     let i = c.loop-i.i in
     let l : i ≤ 15 = omega (arith, c.loop-i-test.true, c.bits.ensures.most) in
     omega (arith, below_all c.loop-i.address i 15 c.loop-i.invariant.1 l)
 
-pub overflow-add-address : goal.overflow-add-address
-overflow-add-address c =
+pub overflow_add-address : goal.overflow_add-address
+overflow_add-address c =
     let i = c.loop-i.i in
     let l : i ≤ 15 = omega (arith, c.loop-i-test.true, c.bits.ensures.most) in
     omega (arith, below_all c.loop-i.address i 15 c.loop-i.invariant.1 l, small c)

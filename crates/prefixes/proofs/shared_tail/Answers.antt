@@ -4,8 +4,8 @@ use Rattle.prefixes.proofs.shared_tail.Goals as goal
 
 pub returns : goal.returns
 returns c =
-    let z = c.zero-tail in
-    let o = c.one-tail in
+    let z = c.zero_tail in
+    let o = c.one_tail in
     let r =
     shared-answer (bits_in c.args.width) c.args.first c.args.last z.result o.result c.min.result
     z.ensures.value o.ensures.value z.ensures.most c.min.ensures in

@@ -13,6 +13,6 @@ returns c =
     let zs = c.arrange.new.spots in
     let ys = c.sort.new.self in
     let s : IsPermutation xs ys = IsPermutation-trans xs zs ys c.arrange.ensures c.sort.ensures.permutation in
-    let a : Answers c.least-next.result (keys_of xs) =
-    subst (λ (r : Option ℕ). Answers r (keys_of xs)) (sym c.least-next.ensures) (answers_from_sort xs ys c.requires s (length zs) c.sort.ensures.len (c.sort.ensures.sorted spots_order)) in
-    record { value = one_answer (keys_of xs) c.least-next.result (first_repeat (keys_of xs)) a (first_answers (keys_of xs)); plain = a; same = s }
+    let a : Answers c.least_next.result (keys_of xs) =
+    subst (λ (r : Option ℕ). Answers r (keys_of xs)) (sym c.least_next.ensures) (answers_from_sort xs ys c.requires s (length zs) c.sort.ensures.len (c.sort.ensures.sorted spots_order)) in
+    record { value = one_answer (keys_of xs) c.least_next.result (first_repeat (keys_of xs)) a (first_answers (keys_of xs)); plain = a; same = s }

@@ -11,6 +11,6 @@ returns-in-Some c =
     let m = length-map xs key_of in
     let l : c.in-Some.index < length xs = omega arith in
     record {
-      value = ap Some (c.place-with.ensures ∙ place_shuffled xs c.first-repeat.new.spots c.in-Some.index c.requires c.first-repeat.ensures.same l) ∙ ap (place_at (places_of xs)) c.in-Some.ensures.value;
-      same = c.first-repeat.ensures.same;
+      value = ap Some (c.place_with.ensures ∙ place_shuffled xs c.first_repeat.new.spots c.in-Some.index c.requires c.first_repeat.ensures.same l) ∙ ap (place_at (places_of xs)) c.in-Some.ensures.value;
+      same = c.first_repeat.ensures.same;
     }

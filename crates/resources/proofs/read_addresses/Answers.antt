@@ -6,7 +6,7 @@ use Rattle.resources.proofs.read_addresses.Goals as goal
 
 pub returns : goal.returns
 returns c =
-    let f = c.addresses-in in
+    let f = c.addresses_in in
     let m = c.args.may in
     let q = octets_of c.args.value in
     record {

@@ -7,35 +7,35 @@ use Rattle.roa.specs.Roas.{family_step, known_seen}
 use Rattle.roa.proofs.Tables.{past_later}
 use Rattle.roa.proofs.read_each_family.Goals as goal
 
-pub returns-in-err-family : goal.returns-in-err-family
-returns-in-err-family c =
+pub returns-in_err-family : goal.returns-in_err-family
+returns-in_err-family c =
     let l = c.loop-rest in
-    let p = err_from_is_err_and c.from-residual.result c.from-residual.ensures.1 in
-    let e = no-element family_step (known_seen l.table (l.before, l.count)) (octets_of l.rest) c.in-err-family.field-0.0 (some_left _ c.loop-rest-test.ensures) c.in-err-family.ensures.value in
+    let p = err_from_is_err_and c.from_residual.result c.from_residual.ensures.1 in
+    let e = no-element family_step (known_seen l.table (l.before, l.count)) (octets_of l.rest) c.in_err-family.field-0.0 (some_left _ c.loop-rest-test.ensures) c.in_err-family.ensures.value in
     record { value = rw p.1 (rw p.2 (sym (l.invariant.5 ∙ e))); past = rw p.1 tt }
 
-pub returns-in-err-number : goal.returns-in-err-number
-returns-in-err-number c =
+pub returns-in_err-number : goal.returns-in_err-number
+returns-in_err-number c =
     let l = c.loop-rest in
-    let p = err_from_is_err_and c.from-residual-in-err-number.result c.from-residual-in-err-number.ensures.1 in
-    let e = refused family_step (known_seen l.table (l.before, l.count)) (octets_of l.rest) (seen c.in-ok-family.family) (octets_of c.in-ok-family.following) (content_report c.in-err-number.field-0.0) (some_left _ c.loop-rest-test.ensures)
-    c.in-ok-family.ensures.value c.in-err-number.ensures.value in
+    let p = err_from_is_err_and c.from_residual-in_err-number.result c.from_residual-in_err-number.ensures.1 in
+    let e = refused family_step (known_seen l.table (l.before, l.count)) (octets_of l.rest) (seen c.in_ok-family.family) (octets_of c.in_ok-family.following) (content_report c.in_err-number.field-0.0) (some_left _ c.loop-rest-test.ensures)
+    c.in_ok-family.ensures.value c.in_err-number.ensures.value in
     record { value = rw p.1 (rw p.2 (sym (l.invariant.5 ∙ e))); past = rw p.1 tt }
 
 pub loop-rest-preserved : goal.loop-rest-preserved
 loop-rest-preserved c =
     let l = c.loop-rest in
-    let more = c.in-ok-number.ensures in
-    let t = c.read-family.new.table in
-    let n = c.in-ok-number.total in (
-      c.in-ok-family.ensures.placed.1,
+    let more = c.in_ok-number.ensures in
+    let t = c.read_family.new.table in
+    let n = c.in_ok-number.total in (
+      c.in_ok-family.ensures.placed.1,
       more.past.0,
       more.past.1,
       more.size,
       more.past.3 ∙ past_later l.count n l.table c.args.table.now more.past.2 l.invariant.4,
       l.invariant.5
-          ∙ taken family_step (known_seen l.table (l.before, l.count)) (known_seen t (c.in-ok-number.number, n)) (octets_of l.rest) (seen c.in-ok-family.family) (octets_of c.in-ok-family.following) (some_left _ c.loop-rest-test.ensures)
-          c.in-ok-family.ensures.value more.value,
+          ∙ taken family_step (known_seen l.table (l.before, l.count)) (known_seen t (c.in_ok-number.number, n)) (octets_of l.rest) (seen c.in_ok-family.family) (octets_of c.in_ok-family.following) (some_left _ c.loop-rest-test.ensures)
+          c.in_ok-family.ensures.value more.value,
     )
 
 pub returns : goal.returns

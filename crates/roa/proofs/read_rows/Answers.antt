@@ -7,38 +7,38 @@ use Rattle.roa.specs.Rows.{row_step}
 use Rattle.roa.proofs.Tables.{past_more}
 use Rattle.roa.proofs.read_rows.Goals as goal
 
-pub returns-in-err-row : goal.returns-in-err-row
-returns-in-err-row c =
+pub returns-in_err-row : goal.returns-in_err-row
+returns-in_err-row c =
     let l = c.loop-rest in
     let step = row_step c.args.family c.args.base in
-    let p = err_from_is_err_and c.from-residual.result c.from-residual.ensures.1 in
-    let e = no-element step (take l.count l.table) (octets_of l.rest) c.in-err-row.field-0.0 (some_left _ c.loop-rest-test.ensures) c.in-err-row.ensures.value in
+    let p = err_from_is_err_and c.from_residual.result c.from_residual.ensures.1 in
+    let e = no-element step (take l.count l.table) (octets_of l.rest) c.in_err-row.field-0.0 (some_left _ c.loop-rest-test.ensures) c.in_err-row.ensures.value in
     record { value = rw p.1 (rw p.2 (sym (l.invariant.5 ∙ e))); past = rw p.1 tt; size = l.invariant.3 }
 
-pub returns-in-err-take-row : goal.returns-in-err-take-row
-returns-in-err-take-row c =
+pub returns-in_err-take_row : goal.returns-in_err-take_row
+returns-in_err-take_row c =
     let l = c.loop-rest in
     let step = row_step c.args.family c.args.base in
-    let p = err_from_is_err_and c.from-residual-in-err-take-row.result c.from-residual-in-err-take-row.ensures.1 in
-    let e = refused step (take l.count l.table) (octets_of l.rest) (seen c.in-ok-row.row) (octets_of c.in-ok-row.following) (content_report c.in-err-take-row.field-0.0) (some_left _ c.loop-rest-test.ensures)
-    c.in-ok-row.ensures.value c.in-err-take-row.ensures.value in
-    record { value = rw p.1 (rw p.2 (sym (l.invariant.5 ∙ e))); past = rw p.1 tt; size = c.take-row.ensures.size }
+    let p = err_from_is_err_and c.from_residual-in_err-take_row.result c.from_residual-in_err-take_row.ensures.1 in
+    let e = refused step (take l.count l.table) (octets_of l.rest) (seen c.in_ok-row.row) (octets_of c.in_ok-row.following) (content_report c.in_err-take_row.field-0.0) (some_left _ c.loop-rest-test.ensures)
+    c.in_ok-row.ensures.value c.in_err-take_row.ensures.value in
+    record { value = rw p.1 (rw p.2 (sym (l.invariant.5 ∙ e))); past = rw p.1 tt; size = c.take_row.ensures.size }
 
 pub loop-rest-preserved : goal.loop-rest-preserved
 loop-rest-preserved c =
     let l = c.loop-rest in
     let step = row_step c.args.family c.args.base in
-    let more = c.in-ok-take-row.ensures in
+    let more = c.in_ok-take_row.ensures in
     let room = more.room in
     let from = l.invariant.1 in (
-      c.in-ok-row.ensures.placed.1,
+      c.in_ok-row.ensures.placed.1,
       omega arith,
       omega arith,
       more.size,
       more.past ∙ past_more l.count l.table c.args.table.now l.invariant.4,
       l.invariant.5
-          ∙ taken step (take l.count l.table) (take (l.count + 1) c.take-row.new.table) (octets_of l.rest) (seen c.in-ok-row.row) (octets_of c.in-ok-row.following) (some_left _ c.loop-rest-test.ensures)
-          c.in-ok-row.ensures.value more.value,
+          ∙ taken step (take l.count l.table) (take (l.count + 1) c.take_row.new.table) (octets_of l.rest) (seen c.in_ok-row.row) (octets_of c.in_ok-row.following) (some_left _ c.loop-rest-test.ensures)
+          c.in_ok-row.ensures.value more.value,
     )
 
 pub returns : goal.returns

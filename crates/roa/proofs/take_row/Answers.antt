@@ -9,11 +9,11 @@ returns c =
     let t = c.args.table.now in
     let n = c.args.count in
     let b = c.args.base in
-    let r = c.in-ok-row.row in
-    let room = under b n c.requires.count.1 c.in-ok-row.ensures.room in
+    let r = c.in_ok-row.row in
+    let room = under b n c.requires.count.1 c.in_ok-row.ensures.room in
     let few = in_table b n t c.requires.count.0 room c.requires.size in
     record {
-      value = stored c.args.family b n t (seen c.args.row.now) r few c.in-ok-row.ensures.value;
+      value = stored c.args.family b n t (seen c.args.row.now) r few c.in_ok-row.ensures.value;
       past = drop-set-lt (n + 1) t n r (omega arith);
       size = length-set t n r ∙ c.requires.size;
       room = room;

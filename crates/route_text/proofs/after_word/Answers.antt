@@ -7,5 +7,5 @@ pub returns : goal.returns
 returns c =
     let s = c.args.s.now in
     let w = c.args.word.now in
-    let r = c.strip-prefix.result in
-    after_is w s r (strip_prefix_is Decides-eqb s w r c.strip-prefix.ensures.cases)
+    let r = c.strip_prefix.result in
+    after_is w s r (strip_prefix_is Decides-eqb s w r c.strip_prefix.ensures.cases)

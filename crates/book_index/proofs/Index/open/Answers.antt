@@ -13,7 +13,7 @@ loop-reading-smaller c = record_shorter c.loop-reading.rest.now _ (sym c.in-Some
 pub loop-reading-preserved : goal.loop-reading-preserved
 loop-reading-preserved c =
     gives_next c.loop-reading.index c.list.new.self c.in-Some.reading.«record» c.loop-reading.rest.now c.in-Some.reading.rest.now c.args.book.now
-    c.in-ok-list.ensures c.in-Some.ensures c.loop-reading.invariant
+    c.in_ok-list.ensures c.in-Some.ensures c.loop-reading.invariant
 
 pub returns : goal.returns
-returns c = gives_all c.loop-reading.index c.loop-reading.rest.now c.args.book.now c.in-default.ensures c.loop-reading.invariant
+returns c = gives_all c.loop-reading.index c.loop-reading.rest.now c.args.book.now c.in_default.ensures c.loop-reading.invariant

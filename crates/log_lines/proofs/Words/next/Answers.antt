@@ -6,10 +6,10 @@ use Rattle.log_lines.proofs.Words.next.Goals as goal
 
 pub returns-then-end-eq0 : goal.returns-then-end-eq0
 returns-then-end-eq0 c =
-    next_empty c.in-Some.rest.now c.word-end-end.result c.word-end-end.ensures.value c.if-end-eq0.true
+    next_empty c.in-Some.rest.now c.word_end-end.result c.word_end-end.ensures.value c.if-end-eq0.true
     ∙ ap (λ (o : Option (Bor (List ℕ))). take_word (pieces o)) (sym c.in-Some.is)
 
 pub returns : goal.returns
 returns c =
-    next_some c.in-Some.rest.now c.word-end-end.result (pieces c.past-self.result) c.word-end-end.ensures.value c.if-end-eq0.false c.word-end-end.ensures.bound c.past-self.ensures
+    next_some c.in-Some.rest.now c.word_end-end.result (pieces c.past-self.result) c.word_end-end.ensures.value c.if-end-eq0.false c.word_end-end.ensures.bound c.past-self.ensures
     ∙ ap (λ (o : Option (Bor (List ℕ))). take_word (pieces o)) (sym c.in-Some.is)

@@ -6,4 +6,4 @@ use Rattle.oracle.proofs.SchemeOracle.verifies.Goals as goal
 use Rattle.std.proofs.lemmas.Bool.Decides.{Decides-eqb}
 
 pub returns : goal.returns
-returns c = same_test _ _ _ _ (slice_eq-Decides Decides-eqb _ _ _ c.eq.ensures) (take_all 32 _ (omega arith) ∙ c.digest-of-both-block.ensures)
+returns c = same_test _ _ _ _ (slice_eq-Decides Decides-eqb _ _ _ c.eq.ensures) (take_all 32 _ (omega arith) ∙ c.digest_of_both-block.ensures)
