@@ -58,6 +58,9 @@ def declared():
                     library.add(a.group(1) if a else n.strip())
                     if a:
                         own[a.group(2)].add(p)
+    for p in files(".rt"):
+        for m in re.finditer(r"(?m)^\s*ghost (" + IDENT + r"): ", read(p)):
+            own[m.group(1)].add(p)
     return own, made, library
 
 

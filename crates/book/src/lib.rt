@@ -94,7 +94,7 @@ fn some_verdict(book: &[u8], key: &[u8], message: &[u8], signature: &[u8]) -> bo
 impl Oracle for Book<'_> {
     ghost digest_of = { λ b s. book_digest b.octets.now s };
 
-    ghost verdictOn = { λ b k m g. book_verdict b.octets.now k m g };
+    ghost verdict_on = { λ b k m g. book_verdict b.octets.now k m g };
 
     fn digest(&self, octets: &[u8]) -> Option<[u8; 32]> {
         first_digest(self.octets, octets)

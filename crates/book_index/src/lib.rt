@@ -108,7 +108,7 @@ impl<'a> Index<'a> {
 impl Oracle for Index<'_> {
     ghost digest_of = { λ i s. index_digest i s };
 
-    ghost verdictOn = { λ i k m g. index_verdict i k m g };
+    ghost verdict_on = { λ i k m g. index_verdict i k m g };
 
     fn digest(&self, octets: &[u8]) -> Option<[u8; 32]> {
         find_digest(self.known.as_slice(), octets)

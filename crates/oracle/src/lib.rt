@@ -15,16 +15,16 @@ ghost use Rattle.oracle.specs.Meaning.{silent_digest, silent_verdict, AlwaysNoIs
 // Who answers for digests and signatures.
 pub trait Oracle {
     // The digest of some octets, 32 octets, or none where it is not known.
-    ghost digestOf: { Self → List ℕ → Option (List ℕ) };
+    ghost digest_of: { Self → List ℕ → Option (List ℕ) };
 
     // Whether the signature is one by the key on the message: key, message, signature.
-    ghost verdictOn: { Self → List ℕ → List ℕ → List ℕ → Bool };
+    ghost verdict_on: { Self → List ℕ → List ℕ → List ℕ → Bool };
 
     fn digest(&self, octets: &[u8]) -> Option<[u8; 32]>
         ensures { result ≡ digest_of self.now octets.now };
 
     fn verifies(&self, key: &[u8], message: &[u8], signature: &[u8]) -> bool
-        ensures { result ≡ verdictOn self.now key.now message.now signature.now };
+        ensures { result ≡ verdict_on self.now key.now message.now signature.now };
 }
 
 // Takes the octets up into the block, from the place `from` on, and answers the next place.
@@ -66,7 +66,7 @@ pub struct Scheme;
 impl Oracle for Scheme {
     ghost digest_of = { λ _ s. Some (scheme_digest s) };
 
-    ghost verdictOn = { λ _ k m g. scheme_verdict k m g };
+    ghost verdict_on = { λ _ k m g. scheme_verdict k m g };
 
     fn digest(&self, octets: &[u8]) -> Option<[u8; 32]> {
         Some(digest_of_both(octets, &[]))
@@ -85,7 +85,7 @@ pub struct Silent;
 impl Oracle for Silent {
     ghost digest_of = { λ _ s. silent_digest s };
 
-    ghost verdictOn = { λ _ k m g. silent_verdict k m g };
+    ghost verdict_on = { λ _ k m g. silent_verdict k m g };
 
     fn digest(&self, _octets: &[u8]) -> Option<[u8; 32]> {
         None
@@ -104,7 +104,7 @@ pub fn vouches<O: Oracle>(
     signature: &[u8],
     stated: [u8; 32],
 ) -> bool
-    ensures { Decides result ((verdictOn oracle.now key.now message.now signature.now ≡ true) × (digest_of oracle.now message.now ≡ Some stated)) }
+    ensures { Decides result ((verdict_on oracle.now key.now message.now signature.now ≡ true) × (digest_of oracle.now message.now ≡ Some stated)) }
 {
     if !oracle.verifies(key, message, signature) {
         return false;

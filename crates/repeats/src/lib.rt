@@ -79,7 +79,7 @@ pub fn first_repeat(spots: &mut [Spot<'_>]) -> Option<usize>
     ensures same { IsPermutation spots.old spots.new }
 {
     heap::arrange(spots);
-    spots.sort();
+    spots.sort_unstable();
     least_next(spots)
 }
 

@@ -97,7 +97,7 @@ pub fn verdict_answer<O: Oracle>(
     message: &[u8],
     signature: &[u8],
 ) -> Result<String, AllocError>
-    ensures { IfOk result (λ s. string_bytes s ≡ verdict_answer (verdictOn oracle.now key.now message.now signature.now)) }
+    ensures { IfOk result (λ s. string_bytes s ≡ verdict_answer (verdict_on oracle.now key.now message.now signature.now)) }
 {
     String::from_str(heap, verdict_line(oracle.verifies(key, message, signature)))
 }
