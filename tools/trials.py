@@ -1,6 +1,7 @@
 #!/usr/bin/env python3
-"""Writes the trials of the program: crates/zapuhoti/data/ (a log of calls and the files it names) and the answers
-that the rules of docs/ENCODING.md, docs/RESOURCES.md and docs/ORACLES.md give, crates/zapuhoti/stdout.
+"""Writes the trials of the programs: a log of calls and the files it names, and the answers that the rules of docs/ENCODING.md, docs/RESOURCES.md
+and docs/ORACLES.md give. crates/zapuhoti/data/ and stdout have the calls on elements, digests and verdicts, crates/list_replay/data/ and stdout
+these and the calls on lists.
 
 Outside the proved part. It and tools/reading.py read the rules on their own and share nothing with the program: dates come from
 Python's calendar, lengths, lists and records from the rules as they stand in the documents.
@@ -11,7 +12,8 @@ from pathlib import Path
 
 from reading import formed, read
 
-HOME = Path(__file__).resolve().parent.parent / "crates" / "zapuhoti"
+CRATES = Path(__file__).resolve().parent.parent / "crates"
+HOME = CRATES / "zapuhoti"
 DATA = HOME / "data"
 
 
@@ -34,6 +36,16 @@ def answer(s):
 
 
 log, out = [], []
+
+
+def save(home):
+    """The trials so far, as the log and the answers of a program, with the files that they name."""
+    (home / "data").mkdir(exist_ok=True)
+    for made in DATA.iterdir():
+        if home != HOME and made.name != "log.txt":
+            (home / "data" / made.name).write_bytes(made.read_bytes())
+    (home / "data" / "log.txt").write_text("\n".join(log) + "\n")
+    (home / "stdout").write_text("\n".join(out) + "\n")
 
 
 def trial(s):
@@ -285,6 +297,7 @@ def spread(kind, count, start=0, gap=2):
     return [(start + gap * i, start + gap * i) for i in range(count)]
 
 
+save(HOME)
 note("joining: apart, touching, overlapping, one in the other, at the ends of the kind")
 for kind, (top, _) in KINDS.items():
     for one, other in (([(1, 3)], [(4, 9)]), ([(1, 3)], [(5, 9)]), ([(1, 9)], [(3, 4), (20, 20)]), ([(5, 9)], [(1, 3)]), ([(4, 9)], [(1, 3)]),
@@ -368,7 +381,7 @@ for form, s in (("addresses", good), ("asn", numbers)):
         ask_read(form, s + bytes.fromhex(more))
     for at in range(len(s)):
         ask_read(form, s[:at] + bytes([s[at] ^ 1]) + s[at + 1:])
-(DATA / "addresses.bin").write_bytes(good)
+(CRATES / "list_replay" / "data" / "addresses.bin").write_bytes(good)
 ask_read("addresses", good, "@addresses.bin")
 note("reading: families")
 for s in (addresses(), addresses(family(ONE, null)), addresses(family(TWO, null)), addresses(family(ONE, null), family(TWO, null)), addresses(family(TWO, null), family(ONE, null)),
@@ -406,7 +419,5 @@ for kind in KINDS:
              element(0x30, entry(kind, 600, 600)), element(0x02, b"\xff"), element(0x03, b"\x00" + b"\xff" * 17), entry(kind, 601, 602)[:-1]]
     for tail in tails:
         ask_read(form, whole(full + tail))
-DATA.mkdir(exist_ok=True)
-(DATA / "log.txt").write_text("\n".join(log) + "\n")
-(HOME / "stdout").write_text("\n".join(out) + "\n")
+save(CRATES / "list_replay")
 print(f"{len(out)} trials")
