@@ -1,8 +1,8 @@
 -- The laws of verdicts. Assumes nothing.
-use Rattle.std.proofs.Common.{◌≡◌, ℕ, ◌<◌, Bool, true, false, cond, ◌||◌, eqb, ltb, ◌⊎◌, List, [], ◌∷◌, Some, None, Decides, Option, sym, refl, ap, ◌∙◌, subst, ap₂, inl, inr, ⊎_elim, arith}
+use Rattle.std.proofs.Common.{◌≡◌, ℕ, Bool, true, false, cond, ◌||◌, eqb, ltb, ◌⊎◌, List, [], ◌∷◌, Some, None, Decides, Option, sym, refl, ap, ◌∙◌, subst, ap₂, inl, inr, ⊎_elim, arith}
 use Rattle.std.specs.List.{ContainsAt as Has}
 use Rattle.std.proofs.lemmas.Bool.{cases_Bool, cases_eq, both_ways}
-use Rattle.std.proofs.lemmas.Bool.Decides.{same_from_decides, not_from_Decides}
+use Rattle.std.proofs.lemmas.Bool.Decides.{same_from_decides}
 use Rattle.payload.specs.declared.Family.{Family}
 use Rattle.payload.specs.declared.Family.TheVariants.{Ipv4, Ipv6}
 use Rattle.payload.specs.declared.Prefix.{Prefix}
@@ -10,9 +10,8 @@ use Rattle.payload.specs.declared.Payload.{Payload}
 use Rattle.payload.specs.Order.{rank}
 use Rattle.payload.specs.Lists.{inserted_into}
 use Rattle.payload.proofs.Members.{has_cases, has_here, has_there, none_has}
-use Rattle.verdict.specs.declared.Verdict.{Verdict}
 use Rattle.verdict.specs.declared.Verdict.TheVariants.{Valid, Invalid, NotFound}
-use Rattle.verdict.specs.Routes.{Covers, Matches, Judged, covers, matches, any, verdict_of}
+use Rattle.verdict.specs.Routes.{Covers, Matches, covers, matches, any, verdict_of}
 use Rattle.verdict.specs.Laws.{OneVerdict, SameVerdict, UncoveredStays, NoneCovers, LongerCoversNot, NoOriginMatchesNot, Telling, DifferInCover}
 use Rattle.verdict.proofs.Verdicts.{covers_decides, matches_decides, any_from, any_to}
 

@@ -1,8 +1,7 @@
 -- The tests decide the relations of RFC 6811, and so the verdict is theirs. Assumes nothing.
-use Rattle.std.proofs.Common.{◌≡◌, ℕ, ◌≤◌, Bool, true, false, cond, not, ◌&&◌, ◌||◌, eqb, leb, ◌⊎◌, List, [], ◌∷◌, Some, None, Ok, Err, Decides, Option, Result, sym, refl, ap, ◌∙◌, subst, inl, inr, ⊎_elim, arith}
+use Rattle.std.proofs.Common.{◌≡◌, ℕ, ◌≤◌, Bool, true, false, cond, not, ◌&&◌, eqb, leb, List, [], ◌∷◌, Some, None, Ok, Err, Decides, Option, Result, sym, refl, ap, ◌∙◌, subst, ⊎_elim, arith}
 use Rattle.std.specs.List.{ContainsAt as Has}
-use Rattle.std.proofs.lemmas.Bool.{or_cases, or_left, or_right, and_parts, and_from, cases_Bool, both_ways, leb-true, le-leb, eqb-true, eq-eqb, ne_eqb, not-true, not_from_false, eqb-false, cond-true, cond-false}
-use Rattle.std.proofs.lemmas.Bool.Decides.{not_from_Decides}
+use Rattle.std.proofs.lemmas.Bool.{or_cases, or_left, or_right, and_parts, and_from, both_ways, leb-true, le-leb, eqb-true, eq-eqb, ne_eqb, not-true, not_from_false, eqb-false, cond-true}
 use Rattle.fault.specs.declared.Rule.{Rule}
 use Rattle.fault.specs.declared.Rule.TheVariants as rule
 use Rattle.payload.specs.declared.Family.{Family}
@@ -13,7 +12,7 @@ use Rattle.payload.specs.Order.{lawful}
 use Rattle.payload.proofs.Members.{has_cases, has_here, has_there, none_has}
 use Rattle.verdict.specs.declared.Verdict.{Verdict}
 use Rattle.verdict.specs.declared.Verdict.TheVariants.{Valid, Invalid, NotFound}
-use Rattle.verdict.specs.Routes.{front, Covers, Matches, Judged, Judgement, same_family, covers, names, matches, any, verdict_after, verdict_of, judged}
+use Rattle.verdict.specs.Routes.{front, Covers, Matches, Judged, Judgement, same_family, covers, names, matches, any, verdict_of, judged}
 
 family_from : (f g : Family) → same_family f g ≡ true → f ≡ g
 family_from Ipv4 Ipv4 e = refl

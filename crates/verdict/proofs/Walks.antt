@@ -1,12 +1,12 @@
 -- One payload more on a walk over a list. Assumes nothing.
-use Rattle.std.proofs.Common.{◌≡◌, ℕ, ◌+◌, ◌<◌, ◌≤◌, Bool, true, false, cond, ◌&&◌, ◌||◌, List, [], ◌∷◌, length, get_or, drop, Option, sym, refl, ap, ◌∙◌}
+use Rattle.std.proofs.Common.{◌≡◌, ℕ, ◌+◌, ◌<◌, ◌≤◌, Bool, true, false, cond, ◌&&◌, ◌||◌, List, ◌∷◌, length, get_or, drop, Option, sym, refl, ◌∙◌}
 use Rattle.std.proofs.lemmas.List.{at_drop_more, at_drop_all}
 use Rattle.std.proofs.lemmas.Bool.{both_ways}
 use Rattle.payload.specs.declared.Prefix.{Prefix}
 use Rattle.payload.specs.declared.Payload.{Payload}
 use Rattle.verdict.specs.declared.Verdict.{Verdict}
-use Rattle.verdict.specs.declared.Verdict.TheVariants.{Valid, Invalid, NotFound}
-use Rattle.verdict.specs.Routes.{covers, names, matches, any, verdict_after, verdict_of}
+use Rattle.verdict.specs.declared.Verdict.TheVariants.{Valid, Invalid}
+use Rattle.verdict.specs.Routes.{covers, names, verdict_after}
 
 match_tells : (c n m k : Bool) (v : Verdict) → c ≡ true → n ≡ true → cond ((c && n) || m) Valid (cond (c || k) Invalid v) ≡ Valid
 match_tells true true m k v e f = refl

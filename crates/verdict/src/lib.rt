@@ -136,7 +136,7 @@ pub fn judge(list: &PayloadList<'_>, route: Prefix, origin: Option<u32>) -> Resu
     ensures rfc { Judgement (held list.now) route origin result }
 {
     if !route.is_lawful() {
-        return Err(Rule::Prefix);
+        return Err(Rule::Prefix); // too long for its family, or with bits past its length
     }
     if list.is_tidy() {
         return Ok(judge_tidy(list, route, origin));

@@ -1,4 +1,4 @@
-use Rattle.std.proofs.Common.{◌≡◌, true, Ok, sym, refl}
+use Rattle.std.proofs.Common.{◌≡◌, Ok, sym, refl}
 use Rattle.verdict.specs.Routes.{judged}
 use Rattle.payload.specs.Lists.{held}
 use Rattle.verdict.proofs.Verdicts.{answer, by_judged}

@@ -1,7 +1,7 @@
-use Rattle.std.proofs.Common.{◌≡◌, ◌+◌, sym, subst, arith}
+use Rattle.std.proofs.Common.{◌+◌, sym, subst, arith}
 use Rattle.payload.specs.Lists.{held}
 use Rattle.verdict.specs.declared.Verdict.{Verdict}
-use Rattle.verdict.proofs.Blocks.{Seen, seen_none, seen_valid, seen_invalid, seen_not, seen_all}
+use Rattle.verdict.proofs.Blocks.{Seen, seen_valid, seen_invalid, seen_not, seen_all}
 use Rattle.verdict.proofs.judge_tidy.Goals as goal
 use Rattle.verdict.proofs.judge_tidy.Goals.{in-Invalid, in-NotFound}
 
