@@ -1,14 +1,13 @@
 -- The text of a list, measured and written line by line. Assumes nothing.
-use Rattle.std.proofs.Common.{◌≡◌, ℕ, zero, suc, ◌+◌, ◌-◌, ◌<◌, ◌≤◌, cond, ltb, List, [], ◌∷◌, ◌++◌, length, get_or, take, drop, set, Ok, Err, Result, sym, refl, ap, ◌∙◌, subst, arith}
+use Rattle.std.proofs.Common.{◌≡◌, ℕ, suc, ◌+◌, ◌-◌, ◌<◌, ◌≤◌, ltb, List, [], ◌∷◌, ◌++◌, length, get_or, take, drop, set, Ok, Err, sym, refl, ap, ◌∙◌, arith}
 use lib.Seq.{sets, sets-eq, length-sets}
-use Rattle.fault.specs.declared.Rule.{Rule}
 use Rattle.fault.specs.declared.Rule.TheVariants.{Area}
-use Rattle.std.proofs.lemmas.List.{append-nil, append_assoc, length-append, length-take-le, set-append_right, take-append-drop, at_drop_more, at_drop_all, drop_all, length-drop, take_rest}
+use Rattle.std.proofs.lemmas.List.{append-nil, length-append, length-take-le, set-append_right, take-append-drop, at_drop_more, at_drop_all, drop_all, length-drop, take_rest}
 use borrow.Rule.Slice.PartMut.{put_mid}
 use Rattle.std.proofs.lemmas.Bool.{lt-ltb, le-ltb, cond-true, cond-false}
 use Rattle.payload.specs.declared.Payload.{Payload}
 use Rattle.listing.specs.Texts.{line_text, lines_text, head_text, list_text}
-use Rattle.listing.specs.Writing.{room_for, laid, Written}
+use Rattle.listing.specs.Writing.{room_for, Written}
 use Rattle.listing.proofs.Writes.{sets_append}
 
 room_short : (text : List ℕ) (room : ℕ) → room < length text → Err Area ≡ room_for text room

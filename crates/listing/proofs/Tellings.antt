@@ -1,14 +1,14 @@
 -- A list is read back from its text. Assumes nothing.
-use Rattle.std.proofs.Common.{◌≡◌, ℕ, suc, ◌+◌, ◌-◌, ◌%◌, ◌^◌, ◌<◌, ◌≤◌, Bool, true, false, ◌&&◌, eqb, leb, List, [], ◌∷◌, ◌++◌, length, codes, decimal, sym, refl, ap, ◌∙◌, subst, ap₂, arith}
+use Rattle.std.proofs.Common.{◌≡◌, ℕ, ◌-◌, ◌%◌, ◌^◌, ◌<◌, ◌≤◌, eqb, leb, List, [], ◌∷◌, ◌++◌, length, codes, decimal, sym, refl, ap, ◌∙◌, ap₂, arith}
 use Rattle.std.specs.List.{AllByRecursion as All}
-use Rattle.std.proofs.lemmas.List.{append_assoc, append_cancel_left, append-nil}
+use Rattle.std.proofs.lemmas.List.{append_assoc, append_cancel_left}
 use Rattle.std.proofs.lemmas.Bool.{and_parts, leb-true, eqb-true}
 use Rattle.payload.specs.declared.Family.{Family}
 use Rattle.payload.specs.declared.Family.TheVariants.{Ipv4, Ipv6}
 use Rattle.payload.specs.declared.Payload.{Payload}
-use Rattle.payload.specs.Order.{width, lawful}
+use Rattle.payload.specs.Order.{width}
 use Rattle.payload.specs.Laws.{Sized}
-use Rattle.listing.specs.Texts.{ipv4_text, ipv6_text, address_text, line_text, lines_text, head_text, list_text}
+use Rattle.listing.specs.Texts.{address_text, line_text, lines_text, head_text}
 use Rattle.listing.specs.Laws.{Lawful, TextTells}
 use Rattle.listing.proofs.Addresses.{InRun, number_cut, ipv4_cut, ipv6_cut, families_apart}
 

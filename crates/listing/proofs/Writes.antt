@@ -1,7 +1,7 @@
 -- Texts that are written one after another. Assumes nothing.
-use Rattle.std.proofs.Common.{◌≡◌, ℕ, zero, suc, ◌+◌, ◌/◌, ◌%◌, ◌^◌, ◌<◌, ◌≤◌, List, [], ◌∷◌, ◌++◌, length, get_or, take, drop, set, codes, decimal, sym, refl, ap, ◌∙◌, subst, add-one, arith}
+use Rattle.std.proofs.Common.{◌≡◌, ℕ, suc, ◌+◌, ◌/◌, ◌%◌, ◌^◌, ◌<◌, ◌≤◌, List, [], ◌∷◌, ◌++◌, length, get_or, take, set, codes, decimal, sym, refl, ap, ◌∙◌, subst, add-one, arith}
 use lib.Seq.{sets}
-use Rattle.std.proofs.lemmas.List.{length-append, set_past, take_more, take_all}
+use Rattle.std.proofs.lemmas.List.{length-append, set_past, take_more}
 use Rattle.std.proofs.lemmas.Fmt.{decimal_digit, decimal_step, length-decimal-le}
 use Rattle.listing.specs.Texts.{octet_at, octets_text, ipv4_text, hex_digit, group_at, group_text, groups_text, ipv6_text, address_text, line_text, head_text}
 use Rattle.payload.specs.declared.Payload.{Payload}

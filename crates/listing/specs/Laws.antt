@@ -1,5 +1,5 @@
 -- A text is the text of one list. Assumes nothing.
-use Rattle.std.specs.Prelude.{◌≡◌, ℕ, ◌^◌, ◌<◌, true, List, length}
+use Rattle.std.specs.Prelude.{◌≡◌, ◌^◌, ◌<◌, true, List, length}
 use Rattle.std.specs.List.{AllByRecursion as All}
 use Rattle.payload.specs.declared.Payload.{Payload}
 use Rattle.payload.specs.Order.{lawful}

@@ -2,7 +2,6 @@
 use Rattle.std.specs.Prelude.{ℕ, zero, suc, ◌+◌, ◌-◌, ◌*◌, ◌/◌, ◌%◌, ◌^◌, cond, List, [], ◌∷◌, ◌++◌, length, codes, decimal, nat_lt}
 use Rattle.payload.specs.declared.Family.{Family}
 use Rattle.payload.specs.declared.Family.TheVariants.{Ipv4, Ipv6}
-use Rattle.payload.specs.declared.Prefix.{Prefix}
 use Rattle.payload.specs.declared.Payload.{Payload}
 
 -- the octet of an address at a place, the first at place 0

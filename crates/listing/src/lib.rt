@@ -1,7 +1,7 @@
 // A list of payloads as text: `payloads=2`, and a line for each, `asn=64496 prefix=192.0.2.0/24 max=26`.
 //
 // `print` writes the text at the front of an area and answers its length, or refuses where the area is too short, and
-// then changes nothing; what stands past the text stays. The text is `listText` of specs/Texts.antt, and
+// then changes nothing; what stands past the text stays. The text is `list_text` of specs/Texts.antt, and
 // `texts_stand` says that it is the text of one list of lawful payloads only. Every piece is written as far as the
 // area goes, so that the same code measures a line, in an area without room, and writes it; `put_head` and `put_line`
 // do so for one line, for whoever compares a line with another text. It rests on `payload` for the list.

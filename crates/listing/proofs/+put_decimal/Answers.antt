@@ -1,4 +1,4 @@
-use Rattle.std.proofs.Common.{decimal, arith}
+use Rattle.std.proofs.Common.{decimal}
 use Rattle.listing.specs.Writing.{Written}
 use Rattle.listing.proofs.Writes.{written_from, number_short, number_long, number_bound}
 use Rattle.listing.proofs.+put_decimal.Goals as goal

@@ -1,4 +1,4 @@
-use Rattle.std.proofs.Common.{◌≡◌, sym, arith}
+use Rattle.std.proofs.Common.{arith}
 use Rattle.std.proofs.lemmas.List.{take_all}
 use Rattle.listing.proofs.Writes.{word_more, written_at}
 use Rattle.listing.proofs.put_word.Goals as goal
