@@ -14,7 +14,7 @@ import re
 import subprocess
 import sys
 
-IDENT = r"[^\s(){};,.\"@]+"
+IDENT = r"[^\s(){};:,.\"@]+"
 CRATES = {"hex": "hex_text", "log": "log_lines"}
 # lemmas that would fall together with the definition that they speak of, or with another
 LEMMAS = "asn-text bit-count fused-from high-count length-octets one-prefix one-tail prefix-count prefix-text quad-parts record-by same-family some-rows v4-text v6-text high-half low-half"
