@@ -35,11 +35,12 @@ pub trait LayerFault: Sized {
 // The next element of a content, of any tag, and the octets after it.
 pub fn next<'a, F: LayerFault>(input: Part<'a>) -> Result<(Element<'a>, Part<'a>), F>
     requires { Placed input }
-    ensures value { told_by told part_of result ≡ next_of layer (octets_of input.entry) }
+    ensures value { told_by F.told part_of result ≡ next_of F.layer (octets_of input.entry) }
     ensures placed { IfOk result (λ p. Placed p.0.content × Placed p.1) }
 {
+    let end = input.place;
     if input.octets.is_empty() {
-        return Err(F::own(Rule::Structure, input.place));
+        return Err(F::own(Rule::Structure, end));
     }
     match read(input) {
         Err(fault) => Err(F::of_element(fault)),
@@ -50,7 +51,7 @@ pub fn next<'a, F: LayerFault>(input: Part<'a>) -> Result<(Element<'a>, Part<'a>
 // The next element of a content, which has to have this tag, and the octets after it.
 pub fn expect<'a, F: LayerFault>(input: Part<'a>, tag: u8) -> Result<(Element<'a>, Part<'a>), F>
     requires { Placed input }
-    ensures value { told_by told part_of result ≡ expect_of layer tag (octets_of input.entry) }
+    ensures value { told_by F.told part_of result ≡ expect_of F.layer tag (octets_of input.entry) }
     ensures placed { IfOk result (λ p. Placed p.0.content × Placed p.1) }
 {
     if input.octets.is_empty() {
@@ -70,7 +71,7 @@ pub fn expect<'a, F: LayerFault>(input: Part<'a>, tag: u8) -> Result<(Element<'a
 // Nothing more in a content.
 pub fn end<F: LayerFault>(rest: Part<'_>) -> Result<(), F>
     requires { Placed rest }
-    ensures { told_by told (λ u. u) result ≡ end_of layer (octets_of rest.entry) }
+    ensures { told_by F.told (λ u. u) result ≡ end_of F.layer (octets_of rest.entry) }
 {
     if rest.octets.is_empty() {
         return Ok(());
