@@ -1,7 +1,7 @@
 -- The run over the octets gives the exclusive-or of the blocks. Assumes nothing.
-use Rattle.std.proofs.Common.{◌≡◌, ℕ, zero, suc, ◌+◌, ◌-◌, ◌*◌, ◌/◌, ◌%◌, ◌<◌, ◌≤◌, ◌⊎◌, List, [], ◌∷◌, ◌++◌, length, get_or, take, drop, set, replicate, sym, refl, ap, ◌∙◌, subst, inl, inr, append_assoc, append-nil, arith}
-use lib.Bits.{bit_xor, xor_assoc, xor_zero_l, xor_zero_r}
-use Rattle.std.proofs.lemmas.List.{length-append, length_push, length-take, length-take-le, length-drop, length-replicate, take-append-drop, take_all, drop_all, get_or_at, set_at}
+use Rattle.std.proofs.Common.{◌≡◌, ℕ, zero, suc, ◌+◌, ◌-◌, ◌*◌, ◌/◌, ◌%◌, ◌<◌, ◌≤◌, List, [], ◌∷◌, ◌++◌, length, get_or, take, drop, set, replicate, sym, refl, ap, ◌∙◌, inl, inr, append_assoc, arith}
+use lib.Bits.{bit_xor, xor_assoc, xor_zero_r}
+use Rattle.std.proofs.lemmas.List.{length-append, length_push, length-take, length-take-le, length-drop, length-replicate, take-append-drop, drop_all, get_or_at, set_at}
 use Rattle.std.proofs.lemmas.Bool.{cases_lt}
 use Rattle.oracle.specs.Scheme.{filled, blocks_of, blocks, xor_each, xor_all, scheme_digest}
 use Rattle.oracle.specs.Runs.{State, xor_run}

@@ -1,9 +1,9 @@
 -- What is said of verdicts and digests. Assumes nothing.
-use Rattle.std.proofs.Common.{◌≡◌, ℕ, Bool, true, false, List, [], ◌++◌, Some, Decides, Option, sym, refl, ap, ◌∙◌, append-nil, rules}
+use Rattle.std.proofs.Common.{◌≡◌, ℕ, Bool, true, List, [], ◌++◌, Some, Decides, Option, sym, refl, ap, ◌∙◌, rules}
 use Rattle.std.specs.Str.{bytes_eq}
 use Rattle.std.proofs.lemmas.Slice.Eq.{bytes_eq-Decides}
 use Rattle.std.proofs.lemmas.Bool.{false≢true}
-use Rattle.oracle.specs.Scheme.{scheme_digest, scheme_verdict}
+use Rattle.oracle.specs.Scheme.{scheme_digest}
 use Rattle.oracle.specs.Meaning.{AlwaysNoIsNotTheScheme}
 
 -- a test that decides whether two lists are equal is `sameBytes`

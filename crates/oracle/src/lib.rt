@@ -104,7 +104,7 @@ pub fn vouches<O: Oracle>(
     signature: &[u8],
     stated: [u8; 32],
 ) -> bool
-    ensures { Decides result ((verdict_on oracle.now key.now message.now signature.now ≡ true) × (digest_of oracle.now message.now ≡ Some stated)) }
+    ensures { Decides result ((O.verdict_on oracle.now key.now message.now signature.now ≡ true) × (O.digest_of oracle.now message.now ≡ Some stated)) }
 {
     if !oracle.verifies(key, message, signature) {
         return false;
