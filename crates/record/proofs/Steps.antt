@@ -1,5 +1,5 @@
 -- The records of a book, one by one, and those of a book with octets after it. Assumes nothing.
-use Rattle.std.proofs.Common.{◌≡◌, ℕ, zero, suc, ◌+◌, ◌-◌, ◌*◌, ◌<◌, ◌≤◌, Bool, true, false, cond, eqb, leb, List, [], ◌∷◌, ◌++◌, length, get_or, take, drop, Some, None, Option, sym, refl, ap, ◌∙◌, arith}
+use Rattle.std.proofs.Common.{◌≡◌, ℕ, zero, suc, ◌<◌, ◌≤◌, List, [], ◌∷◌, ◌++◌, length, Some, None, sym, refl, ap, ◌∙◌, arith}
 use Rattle.record.specs.Format.{Entry, Front, record_of, listed, remaining, records_of, rest_of, records, leftover}
 use Rattle.record.proofs.Fronts.{record_shorter, record_extends}
 

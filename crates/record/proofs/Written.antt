@@ -1,10 +1,10 @@
 -- What was written is read, and what was read is what stands there. Assumes nothing.
-use Rattle.std.proofs.Common.{◌≡◌, ℕ, zero, suc, ◌+◌, ◌-◌, ◌*◌, ◌/◌, ◌%◌, ◌^◌, ◌<◌, ◌≤◌, Bool, true, false, cond, eqb, leb, ◌⊎◌, List, [], ◌∷◌, ◌++◌, length, get_or, take, drop, Some, None, Option, sym, refl, ap, ◌∙◌, subst, inl, inr, append_assoc, append-nil, arith}
+use Rattle.std.proofs.Common.{◌≡◌, ℕ, ◌+◌, ◌*◌, ◌/◌, ◌%◌, ◌^◌, ◌<◌, ◌≤◌, eqb, ◌⊎◌, List, [], ◌∷◌, ◌++◌, length, take, drop, Some, Option, sym, refl, ap, ◌∙◌, subst, inl, inr, append_assoc, append-nil, arith}
 use Rattle.std.specs.List.{AllByRecursion as All}
-use Rattle.std.proofs.ByRecursion.{All-get_or, All-drop}
-use Rattle.std.proofs.lemmas.List.{length-append, length-drop, length-take-le, take_at, drop_at, take-append-drop, drop-drop, drop_more}
+use Rattle.std.proofs.ByRecursion.{All-drop}
+use Rattle.std.proofs.lemmas.List.{length-append, length-drop, length-take-le, take_at, drop_at, take-append-drop, drop-drop}
 use Rattle.std.proofs.lemmas.Bool.{eq-eqb, ne_eqb, eqb-true, cond-true, cond-false, cases_eq}
-use Rattle.record.specs.Format.{Entry, Known, Signed, Front, then_read, length_at, field_of, digest_only, digest_record, verdict_record, record_by, record_of, listed, records, leftover, Whole}
+use Rattle.record.specs.Format.{Entry, Known, Signed, Front, then_read, length_at, field_of, digest_only, digest_record, verdict_record, record_by, record_of, records, leftover, Whole}
 use Rattle.record.specs.Writing.{length_octets, field_octets, record_octets, book_of, Writable}
 use Rattle.record.specs.Promises.{AppendedOctetsKeepRecords, AppendedRecordIsTheLast, BookIsItsRecords, WrittenRecordsAreRead, LeftoverSaysNothing}
 use Rattle.record.proofs.Fronts.{some_same, none_some, then_some, when_some, field_at, field_some}
