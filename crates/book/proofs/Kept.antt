@@ -1,16 +1,15 @@
 -- What a book's answers say of its records. Assumes nothing.
-use Rattle.std.proofs.Common.{◌≡◌, ℕ, Bool, true, false, cond, ◌&&◌, ◌||◌, List, [], ◌∷◌, ◌++◌, is_some, Some, None, Decides, Option, sym, refl, ap, ◌∙◌, append_assoc, arith}
+use Rattle.std.proofs.Common.{◌≡◌, ℕ, Bool, true, false, cond, ◌&&◌, ◌||◌, List, [], ◌∷◌, ◌++◌, Some, None, Decides, Option, sym, refl, ap, ◌∙◌, arith}
 use Rattle.std.specs.Option.{option_or}
-use Rattle.std.specs.List.{ContainsAt as Has, AllByRecursion as All}
+use Rattle.std.specs.List.{AllByRecursion as All}
 use Rattle.std.specs.Str.{bytes_eq}
 use Rattle.std.proofs.lemmas.Slice.Eq.{bytes_eq-Decides}
 use Rattle.std.proofs.lemmas.Bool.Decides.{Decides-and, Decides-like, Decides-by_or}
 use Rattle.std.proofs.lemmas.Bool.{false≢true}
-use Rattle.oracle.specs.Meaning.{Verdicts, AlwaysNo, SameVerdicts}
 use Rattle.record.specs.Format.{Entry, Known, Signed, records, leftover}
 use Rattle.record.proofs.Fronts.{some_same, none_some}
 use Rattle.record.proofs.Steps.{records_append}
-use Rattle.book.specs.Meaning.{digest_said, yes_said, first_digest, some_verdict, book_digest, book_verdict}
+use Rattle.book.specs.Meaning.{digest_said, yes_said, first_digest, some_verdict}
 use Rattle.book.specs.Promises.{YesIsARecord, SilentOn, FirstOf, DigestIsTheFirst, UnknownIsNoRecord, NoVerdict, NoVerdictRecordNoYes, AlwaysNoIsNoBookWithAVerdict, AnswersDependOnRecordsOnly, AppendedOctetsKeepAnswers}
 
 -- a record says yes exactly where it is the record of the three

@@ -1,13 +1,11 @@
 -- What one record says, and a walk over the records. Assumes nothing.
-use Rattle.std.proofs.Common.{◌≡◌, ℕ, Bool, true, false, cond, ◌&&◌, ◌||◌, List, [], ◌∷◌, ◌++◌, is_some, Some, None, Decides, Option, sym, refl, ap, ◌∙◌, append_assoc, arith}
+use Rattle.std.proofs.Common.{◌≡◌, ℕ, Bool, true, false, ◌||◌, List, is_some, Some, None, Decides, Option, sym, ap, ◌∙◌}
 use Rattle.std.specs.Option.{option_or}
-use Rattle.std.specs.List.{ContainsAt as Has, AllByRecursion as All}
 use Rattle.std.specs.Str.{bytes_eq}
 use Rattle.std.proofs.lemmas.Slice.Eq.{bytes_eq-Decides}
-use Rattle.std.proofs.lemmas.Bool.Decides.{same_from_decides, Decides-and, Decides-like}
+use Rattle.std.proofs.lemmas.Bool.Decides.{same_from_decides}
 use Rattle.std.proofs.lemmas.Bool.{false≢true}
-use Rattle.record.specs.Format.{Entry, Known, Signed, Front, record_of, listed, records}
-use Rattle.record.proofs.Fronts.{some_same, none_some}
+use Rattle.record.specs.Format.{Entry, record_of}
 use Rattle.record.proofs.Steps.{records_some, records_none}
 use Rattle.book.specs.Meaning.{digest_said, yes_said, first_digest, some_verdict, book_digest, book_verdict}
 

@@ -1,5 +1,5 @@
 -- What is promised of a verdict book's answers. Assumes nothing.
-use Rattle.std.specs.Prelude.{◌≡◌, ℕ, Bool, true, false, List, [], ◌∷◌, ◌++◌, Some, None, Decides, ◌≢◌}
+use Rattle.std.specs.Prelude.{◌≡◌, ℕ, true, List, ◌∷◌, ◌++◌, Some, None, Decides, ◌≢◌}
 use Rattle.std.specs.List.{ContainsAt as Has, AllByRecursion as All}
 use Rattle.oracle.specs.Meaning.{Verdicts, AlwaysNo, SameVerdicts}
 use Rattle.record.specs.Format.{Entry, Known, Signed, records}

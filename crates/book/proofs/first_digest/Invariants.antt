@@ -1,5 +1,5 @@
 use Rattle.std.proofs.Common.{◌≡◌, length}
-use Rattle.book.specs.Meaning.{book_digest, book_verdict}
+use Rattle.book.specs.Meaning.{book_digest}
 use Rattle.book.proofs.first_digest.Given as goal
 
 abbrev pub invariant-loop-reading : goal.invariant-loop-reading

@@ -1,5 +1,5 @@
 use Rattle.std.proofs.Common.{◌≡◌, length}
-use Rattle.book.specs.Meaning.{book_digest, book_verdict}
+use Rattle.book.specs.Meaning.{book_verdict}
 use Rattle.book.proofs.some_verdict.Given as goal
 
 abbrev pub invariant-loop-reading : goal.invariant-loop-reading
