@@ -1,7 +1,7 @@
 -- Octets appended part by part, and a record appended to a book. Assumes nothing.
-use Rattle.std.proofs.Common.{◌≡◌, ℕ, Bool, cond, List, [], ◌∷◌, ◌++◌, length, take, is_ok, Ok, Err, Result, sym, refl, ap, ◌∙◌, append_assoc, arith}
+use Rattle.std.proofs.Common.{◌≡◌, ℕ, cond, List, ◌++◌, length, take, is_ok, Ok, Err, Result, sym, ap, ◌∙◌, append_assoc, arith}
 use Rattle.std.proofs.lemmas.List.{take_at}
-use Rattle.record.specs.Format.{Entry, records, leftover, Whole}
+use Rattle.record.specs.Format.{Entry, records, leftover}
 use Rattle.record.specs.Writing.{record_octets, Writable}
 use Rattle.record.proofs.Written.{appended_record}
 use Rattle.book_writer.specs.Writer.{Appended, Written}
