@@ -1,5 +1,5 @@
 -- One entry of a list of addresses: a prefix, or a range of two bit strings (RFC 3779 2.2.3.7 to 2.2.3.9). Assumes nothing.
-use Rattle.std.specs.Prelude.{ℕ, Bool, true, cond, not, ◌&&◌, List, Some, None, Ok, Err, Option, Result, ◌==◌, nat_lt}
+use Rattle.std.specs.Prelude.{ℕ, Bool, true, cond, not, ◌&&◌, List, Some, None, Ok, Option, Result, ◌==◌, nat_lt}
 use Rattle.fault.specs.declared.Rule.TheVariants.{Structure, Value}
 use Rattle.fault.specs.declared.Layer.TheVariants.{Set}
 use Rattle.fault.specs.declared.Report.{Report}

@@ -1,5 +1,5 @@
 -- One entry of a list of AS numbers: a number, or a range of two (RFC 3779 3.2.3.5 to 3.2.3.8). Assumes nothing.
-use Rattle.std.specs.Prelude.{ℕ, ◌^◌, cond, ◌&&◌, List, length, Some, None, Ok, Err, Option, Result, ◌==◌, nat_le, nat_lt, slice_index}
+use Rattle.std.specs.Prelude.{ℕ, cond, ◌&&◌, List, length, Some, None, Ok, Option, Result, ◌==◌, nat_le, nat_lt, slice_index}
 use Rattle.std.specs.Int.Digits.{number_from_digits}
 use Rattle.fault.specs.declared.Rule.TheVariants.{Structure, Value}
 use Rattle.fault.specs.declared.Layer.TheVariants.{Set}
