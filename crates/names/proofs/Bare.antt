@@ -1,20 +1,17 @@
 -- That the tests on bare names, endings and manifests' names tell what the relations say. Assumes nothing.
-use Rattle.std.proofs.Common.{◌≡◌, ℕ, ◌+◌, ◌-◌, ◌<◌, ◌≤◌, Bool, true, false, cond, ◌&&◌, eqb, leb, ◌⊎◌, List, ◌∷◌, ◌++◌, length, get_or, take, drop, Some, None, Decides, Option, sym, refl, ap, ◌∙◌, subst, inl, inr, ⊎_elim, arith, length-append, length-drop, take-append-drop, MatchOption}
+use Rattle.std.proofs.Common.{◌≡◌, ℕ, ◌+◌, ◌-◌, ◌<◌, ◌≤◌, Bool, true, false, cond, List, ◌∷◌, ◌++◌, length, get_or, take, drop, Some, None, Decides, Option, sym, refl, ap, ◌∙◌, subst, ⊎_elim, arith, length-append, length-drop, take-append-drop, MatchOption}
 use lib.Seq.{take-append_seam, drop-append_seam, drop-append-add, get_or-append_seam}
 use Rattle.std.specs.List.{AllByRecursion as All}
 use Rattle.std.specs.Str.{bytes_eq}
 use Rattle.std.proofs.lemmas.List.{drop_more, get_or_append_left, get_or-append_right, get_or-take, length-take-le}
 use Rattle.std.proofs.ByRecursion.{All-get_or, All-append, All-weaker}
-use Rattle.std.specs.Cmp.Lexicographic.{Matches}
 use Rattle.std.proofs.lemmas.Slice.Eq.{bytes_eq-Decides, ends_is}
 use Rattle.std.proofs.lemmas.List.Prefix.{end_rest}
-use Rattle.std.proofs.lemmas.Bool.{leb-true, le-leb}
 use Rattle.std.proofs.lemmas.Bool.Decides.{Decides-and, Decides-eqb, Decides-like, not_from_Decides, same_from_decides}
-use Rattle.names.specs.declared.Class.{Class}
-use Rattle.names.specs.declared.Class.TheVariants.{Visible, Stem, Lower}
+use Rattle.names.specs.declared.Class.TheVariants.{Stem, Lower}
 use Rattle.names.specs.declared.Ending.{Ending}
 use Rattle.names.specs.declared.Ending.TheVariants.{Cer, Crl, Mft, Roa}
-use Rattle.names.specs.Tests.{is_of, every, folder_size, folder_of, base_of, dotted_at, is_bare, is_name, is_manifest_name, ends_with, text_of, ending_of}
+use Rattle.names.specs.Tests.{folder_size, folder_of, base_of, is_bare, is_manifest_name, ends_with, text_of, ending_of}
 use Rattle.names.specs.Names.{Of, Slashed, FolderEnd, Name, Bare, ManifestName, EndsWith, FolderOfBare}
 use Rattle.names.proofs.Folders.{size_end, one_end}
 use Rattle.names.proofs.Tested.{all_of, decides_leb, name_decides, name_parts}
@@ -104,7 +101,7 @@ ends_decides s t =
 
 -- what the library's test of an end answers
 pub ends-answer :
-    (s t : List ℕ) (r : Bool) → Matches (λ (a b : ℕ) (q : Bool). Decides q (a ≡ b)) t (drop (length s - length t) s) r → r ≡ ends_with s t
+    (s t : List ℕ) (r : Bool) → r ≡ bytes_eq t (drop (length s - length t) s) → r ≡ ends_with s t
 ends-answer s t r m =
     let p = ends_is Decides-eqb s t r m in
     same_from_decides r (ends_with s t) (λ e. (take (length s - length t) s, p.0 e), λ q. p.1 q.0 q.1) (ends_decides s t)

@@ -1,5 +1,5 @@
 -- That the tests on names tell what the relations say. Assumes nothing.
-use Rattle.std.proofs.Common.{◌≡◌, ℕ, ◌+◌, ◌-◌, ◌<◌, ◌≤◌, Bool, true, false, ◌&&◌, ◌||◌, eqb, ltb, leb, List, ◌∷◌, ◌++◌, length, get_or, take, drop, Decides, sym, refl, ap, ◌∙◌, subst, ⊎_elim, arith}
+use Rattle.std.proofs.Common.{◌≡◌, ℕ, ◌+◌, ◌-◌, ◌<◌, ◌≤◌, Bool, true, false, ◌&&◌, leb, List, length, get_or, drop, Decides, sym, refl, ap, ◌∙◌, ⊎_elim, arith}
 use Rattle.std.specs.List.{AllByRecursion as All}
 use Rattle.std.proofs.lemmas.List.{at_drop_more, at_drop_all}
 use Rattle.std.proofs.lemmas.Bool.{leb-true, le-leb, cases_lt}
@@ -8,7 +8,7 @@ use Rattle.std.proofs.ByRecursion.{Decides-by_and}
 use Rattle.names.specs.declared.Class.{Class}
 use Rattle.names.specs.declared.Class.TheVariants.{Visible, Stem, Lower}
 use Rattle.names.specs.Tests.{between, is_of, every, folder_size, is_name, is_folder}
-use Rattle.names.specs.Names.{Between, Of, Slashed, FolderEnd, Name, Folder}
+use Rattle.names.specs.Names.{Between, Of, FolderEnd, Name, Folder}
 use Rattle.names.proofs.Folders.{size_end}
 
 pub decides_leb : (a b : ℕ) → Decides (leb a b) (a ≤ b)

@@ -53,7 +53,7 @@ pub record Bare (s : List ℕ) : Type 0 where
 abbrev pub EndsWith : List ℕ → List ℕ → Type 0
 EndsWith s t = (front : List ℕ) × (s ≡ front ++ t)
 
--- the name of a manifest: a name that is a folder and a bare name that ends.mft
+-- the name of a manifest: a name that is a folder and a bare name that ends .mft
 pub record ManifestName (s : List ℕ) : Type 0 where
   pub name : Name s
   pub folder : List ℕ
