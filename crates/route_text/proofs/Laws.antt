@@ -1,19 +1,19 @@
 -- Prefixes, routes and origins in print are read as themselves. Assumes nothing.
-use Rattle.std.proofs.Common.{◌≡◌, ℕ, zero, suc, ◌+◌, ◌-◌, ◌*◌, ◌/◌, ◌%◌, ◌^◌, ◌<◌, ◌≤◌, Bool, true, false, cond, not, ◌&&◌, eqb, ltb, leb, ◌⊎◌, List, [], ◌∷◌, ◌++◌, length, Some, None, Ok, Err, codes, decimal, Option, Result, sym, refl, ap, ◌∙◌, subst, ap₂, inl, inr, arith}
+use Rattle.std.proofs.Common.{◌≡◌, ℕ, ◌+◌, ◌-◌, ◌*◌, ◌/◌, ◌%◌, ◌^◌, ◌<◌, ◌≤◌, Bool, true, false, cond, not, ◌&&◌, eqb, ltb, leb, List, [], ◌∷◌, ◌++◌, Some, None, Ok, Err, codes, decimal, Option, sym, refl, ap, ◌∙◌, inl, inr, arith}
 use Rattle.std.specs.Str.{bytes_eq}
 use Rattle.std.proofs.lemmas.Fmt.{decimal_by_steps}
 use Rattle.std.proofs.lemmas.List.{append_assoc, append-nil}
-use Rattle.std.proofs.lemmas.Bool.{cases_Bool, cases_lt, le-leb, lt-leb, lt-ltb, le-ltb, eqb-true, leb-true, ne_eqb, and_parts, and_from}
+use Rattle.std.proofs.lemmas.Bool.{cases_Bool, le-leb, lt-ltb, eqb-true, leb-true, ne_eqb, and_parts, and_from}
 use Rattle.std.proofs.lemmas.Bool.Decides.{nat_tests}
 use Rattle.payload.specs.declared.Family.{Family}
 use Rattle.payload.specs.declared.Family.TheVariants.{Ipv4, Ipv6}
 use Rattle.payload.specs.declared.Prefix.{Prefix}
-use Rattle.payload.specs.Order.{width, lawful}
-use Rattle.listing.specs.Texts.{hex_digit, group_at, group_text, groups_text, ipv4_text, ipv6_text, address_text}
+use Rattle.payload.specs.Order.{width}
+use Rattle.listing.specs.Texts.{hex_digit, group_at, group_text, ipv4_text, ipv6_text, address_text}
 use Rattle.listing.proofs.Addresses.{groups_begin, ipv6_open, back_zero}
-use Rattle.route_text.specs.Pieces.{then_some, after_word, is_digit, with_digit, digits_from, number_from, number_of, small, octet_of, octet_dot, quad_of, past_colon, six_of, either_of, Addressed, address_of, length_of, prefix_of}
+use Rattle.route_text.specs.Pieces.{then_some, after_word, is_digit, with_digit, digits_from, number_of, small, octet_of, octet_dot, quad_of, past_colon, six_of, either_of, Addressed, address_of, length_of, prefix_of}
 use Rattle.route_text.specs.declared.Misspelt.TheVariants.{Origin}
-use Rattle.route_text.specs.Words.{only_prefix, route_of, only_asn, asn_of, present, digits_of, origin_of}
+use Rattle.route_text.specs.Words.{only_prefix, only_asn, asn_of, present, digits_of, origin_of}
 use Rattle.route_text.specs.Laws.{starts_digit, prefix_text, ReadsPrefix, ReadsRoute, ReadsOrigin}
 use Rattle.route_text.proofs.Numbers.{reads_number}
 use Rattle.route_text.proofs.Quads.{ipv4_reads}

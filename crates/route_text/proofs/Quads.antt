@@ -1,11 +1,10 @@
 -- An IPv4 address in print is read as itself. Assumes nothing.
-use Rattle.std.proofs.Common.{◌≡◌, ℕ, zero, suc, ◌+◌, ◌-◌, ◌*◌, ◌/◌, ◌%◌, ◌^◌, ◌<◌, ◌≤◌, Bool, true, false, cond, not, ◌&&◌, eqb, ltb, ◌⊎◌, List, [], ◌∷◌, ◌++◌, Some, None, decimal, Option, sym, refl, ap, ◌∙◌, subst, ap₂, inl, inr, arith}
+use Rattle.std.proofs.Common.{◌≡◌, ℕ, ◌+◌, ◌*◌, ◌/◌, ◌%◌, ◌^◌, ◌<◌, Bool, false, cond, List, [], ◌∷◌, ◌++◌, Some, None, decimal, Option, refl, ap, ◌∙◌, arith}
 use Rattle.std.proofs.lemmas.Nat.{shr-shr}
-use Rattle.std.proofs.lemmas.List.{append_assoc}
-use Rattle.std.proofs.lemmas.Bool.{cases_Bool, lt-ltb}
-use Rattle.listing.specs.Texts.{octet_at, octets_text, ipv4_text}
+use Rattle.std.proofs.lemmas.Bool.{lt-ltb}
+use Rattle.listing.specs.Texts.{octet_at, ipv4_text}
 use Rattle.listing.proofs.Addresses.{octets_open, octets_first, ipv4_open}
-use Rattle.route_text.specs.Pieces.{then_some, after_word, number_of, small, octet_of, octet_dot, quad_of}
+use Rattle.route_text.specs.Pieces.{then_some, after_word, small, octet_of, octet_dot, quad_of}
 use Rattle.route_text.specs.Laws.{starts_digit}
 use Rattle.route_text.proofs.Numbers.{reads_number}
 

@@ -1,13 +1,12 @@
 -- An IPv6 address in print is read as itself. Assumes nothing.
-use Rattle.std.proofs.Common.{◌≡◌, ℕ, zero, suc, ◌+◌, ◌-◌, ◌*◌, ◌/◌, ◌%◌, ◌^◌, ◌<◌, ◌≤◌, Bool, true, false, cond, not, ◌&&◌, eqb, ltb, leb, ◌⊎◌, List, [], ◌∷◌, ◌++◌, is_some, Some, None, Option, sym, refl, ap, ◌∙◌, subst, ap₂, inl, inr, arith}
+use Rattle.std.proofs.Common.{◌≡◌, ℕ, zero, suc, ◌+◌, ◌-◌, ◌*◌, ◌/◌, ◌%◌, ◌^◌, ◌<◌, ◌≤◌, Bool, true, false, cond, not, ◌&&◌, leb, List, ◌∷◌, ◌++◌, is_some, Some, None, Option, sym, refl, ap, ◌∙◌, ap₂, inl, inr, arith}
 use lib.Pow.{split}
 use Rattle.std.proofs.lemmas.Nat.{shr-shr}
-use Rattle.std.proofs.lemmas.Bool.{cases_Bool, cases_lt, le-leb, lt-leb, lt-ltb, le-ltb}
-use Rattle.std.proofs.lemmas.Bool.Decides.{nat_tests}
+use Rattle.std.proofs.lemmas.Bool.{cases_lt, le-leb, lt-leb, lt-ltb, le-ltb}
 use Rattle.hex_text.specs.Digits.{nibble_of}
 use Rattle.listing.specs.Texts.{hex_digit, group_at, group_text, groups_text, ipv6_text}
-use Rattle.listing.proofs.Addresses.{groups_open, groups_first, groups_begin, ipv6_open}
-use Rattle.route_text.specs.Pieces.{then_some, after_word, is_digit, with_digit, digits_from, number_from, number_of, small, octet_of, octet_dot, quad_of, grow_by, grow, grow_on, four_of, starts_hex, group_of, past_one, past_colon, Run, with_group, groups_of, six_from, six_of}
+use Rattle.listing.proofs.Addresses.{groups_open, groups_first, ipv6_open}
+use Rattle.route_text.specs.Pieces.{grow_by, grow, grow_on, four_of, starts_hex, group_of, past_colon, Run, with_group, groups_of, six_from, six_of}
 
 nibble_low : (n : ℕ) → n < 10 → nibble_of (n + 48) ≡ Some n
 nibble_low n l =

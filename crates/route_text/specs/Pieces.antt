@@ -1,7 +1,6 @@
 -- What stands at the front of a text, and what follows it: a word, a number, an address, a prefix. Assumes nothing.
 use Rattle.std.specs.Prelude.{ℕ, zero, suc, ◌+◌, ◌-◌, ◌*◌, ◌^◌, Bool, false, cond, not, ◌&&◌, List, [], ◌∷◌, is_some, Some, None, Option, ◌==◌, nat_le, nat_lt}
 use Rattle.std.specs.Borrow.{Bor}
-use Rattle.std.specs.Option.{option_map}
 use Rattle.hex_text.specs.Digits.{nibble_of}
 use Rattle.payload.specs.declared.Family.{Family}
 use Rattle.payload.specs.declared.Family.TheVariants.{Ipv4, Ipv6}

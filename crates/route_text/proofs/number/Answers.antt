@@ -1,4 +1,4 @@
-use Rattle.std.proofs.Common.{◌≡◌, sym, ap, ◌∙◌, rules}
+use Rattle.std.proofs.Common.{sym, ap, ◌∙◌, rules}
 use Rattle.std.proofs.lemmas.Slice.{first_rest}
 use Rattle.route_text.specs.Pieces.{number_of}
 use Rattle.route_text.proofs.number.Goals as goal

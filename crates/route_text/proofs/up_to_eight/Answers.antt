@@ -8,4 +8,4 @@ loop-i-init c = (groups_none c.args.s.now, omega arith, omega arith)
 
 pub loop-i-preserved : goal.loop-i-preserved
 loop-i-preserved c =
-    (groups_more c.loop-i.-i c.args.s.now (run_of c.loop-i.run) (run_of c.next_group-run.result) c.loop-i.invariant.0 c.next_group-run.ensures.value, omega (arith, c.next_group-run.ensures.bound, c.loop-i.invariant.1), c.next_group-run.ensures.fits)
+    (groups_more c.loop-i._i c.args.s.now (run_of c.loop-i.run) (run_of c.next_group-run.result) c.loop-i.invariant.0 c.next_group-run.ensures.value, omega (arith, c.next_group-run.ensures.bound, c.loop-i.invariant.1), c.next_group-run.ensures.fits)
