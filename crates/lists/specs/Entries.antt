@@ -1,6 +1,6 @@
 -- The entries of a list of resources, read one after the other (RFC 3779 2.2.3.6 and 3.2.3.4). Assumes nothing.
 use Rattle.std.specs.Prelude.{ℕ, zero, suc, ◌+◌, Bool, true, cond, List, [], ◌∷◌, ◌++◌, length, drop, Some, None, Ok, Err, Option, Result, ◌==◌, nat_lt}
-use Rattle.fault.specs.declared.Rule.TheVariants.{Order, Count, Value}
+use Rattle.fault.specs.declared.Rule.TheVariants.{Order, Count}
 use Rattle.fault.specs.declared.Layer.TheVariants.{Set}
 use Rattle.fault.specs.declared.Report.{Report}
 use Rattle.fault.specs.declared.ElementFault.{ElementFault}

@@ -17,7 +17,7 @@ use ranges::{MOST, Range};
 
 // Whether the range stands after the one before it, with a point missing between them.
 fn is_next<P: Point>(before: Option<Range<P>>, range: Range<P>) -> bool
-    ensures { result ≡ is_apart rank before range }
+    ensures { result ≡ is_apart P.rank before range }
 {
     match before {
         None => true,
@@ -31,7 +31,7 @@ fn next_entry<P: Resource>(
     before: Option<Range<P>>,
 ) -> Result<Range<P>, SetFault>
     requires { Placed element.now.content }
-    ensures { reported set_report result ≡ entry_in P.Point.rank entry before (seen element.now) }
+    ensures { reported set_report result ≡ entry_in P.rank P.entry before (seen element.now) }
 {
     let range = P::read_entry(element)?;
     if !is_next(before, range) {
@@ -46,7 +46,7 @@ fn next_entry<P: Resource>(
 // The fault of an entry past the last that a list may have.
 fn past_last<P: Resource>(element: &Element<'_>, before: Option<Range<P>>) -> SetFault
     requires { Placed element.now.content }
-    ensures { set_report result ≡ past_last P.Point.rank entry element.now.place (entry_in P.Point.rank entry before (seen element.now)) }
+    ensures { set_report result ≡ past_last P.rank P.entry element.now.place (entry_in P.rank P.entry before (seen element.now)) }
 {
     let own = SetFault::Own {
         rule: Rule::Count,
@@ -72,7 +72,7 @@ fn counted_entry<P: Resource>(
 ) -> Result<Range<P>, SetFault>
     requires place { Placed element.now.content }
     requires count { count ≤ 256 }
-    ensures value { reported set_report result ≡ entry_with P.Point.rank entry (256 - count) before (seen element.now) }
+    ensures value { reported set_report result ≡ entry_with P.rank P.entry (256 - count) before (seen element.now) }
     ensures room { OnOk result (count < 256) }
 {
     if count == MOST {
@@ -97,8 +97,8 @@ pub fn read_entries<P: Resource>(
 ) -> Result<usize, SetFault>
     requires place { Placed content }
     requires size { length table.old ≡ 256 }
-    ensures value { reported set_report result ≡ counted (entries_of P.Point.rank entry 256 None (octets_of content.entry)) }
-    ensures table { table.new ≡ kept (entries_of P.Point.rank entry 256 None (octets_of content.entry)).0 table.old }
+    ensures value { reported set_report result ≡ counted (entries_of P.rank P.entry 256 None (octets_of content.entry)) }
+    ensures table { table.new ≡ kept (entries_of P.rank P.entry 256 None (octets_of content.entry)).0 table.old }
 {
     let mut rest = content;
     let mut before = None;

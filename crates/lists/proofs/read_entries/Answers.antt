@@ -1,4 +1,4 @@
-use Rattle.std.proofs.Common.{◌+◌, List, Some, sym, subst, arith, rules}
+use Rattle.std.proofs.Common.{◌+◌, List, Some, sym, subst}
 use Rattle.ranges.specs.declared.Range.{Range}
 use Rattle.std.proofs.lemmas.Result.{err_from_is_err_and}
 use Rattle.element.specs.Reading.{octets_of, seen}

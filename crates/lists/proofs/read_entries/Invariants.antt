@@ -1,4 +1,4 @@
-use Rattle.std.proofs.Common.{ℕ, length}
+use Rattle.std.proofs.Common.{length}
 use Rattle.element.specs.Reading.{Placed, octets_of}
 use Rattle.lists.proofs.Going.{Going}
 use Rattle.lists.proofs.read_entries.Given as goal
