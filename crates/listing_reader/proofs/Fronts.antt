@@ -1,5 +1,5 @@
 -- What stands at the front of an area after a text was written there. Assumes nothing.
-use Rattle.std.proofs.Common.{◌≡◌, ℕ, ◌+◌, ◌-◌, ◌<◌, ◌≤◌, List, [], ◌∷◌, ◌++◌, length, take, drop, sym, refl, ap, ◌∙◌, arith}
+use Rattle.std.proofs.Common.{◌≡◌, ℕ, ◌+◌, ◌-◌, ◌≤◌, List, ◌++◌, length, take, drop, refl, ap, ◌∙◌, arith}
 use lib.Seq.{sets, sets-eq}
 use Rattle.std.proofs.lemmas.List.{take_at}
 use Rattle.listing.specs.Writing.{Written}

@@ -1,19 +1,18 @@
 -- What a text that is read, and one that is not, is. Assumes nothing.
-use Rattle.std.proofs.Common.{◌≡◌, ℕ, zero, suc, ◌+◌, ◌^◌, ◌<◌, ◌≤◌, Bool, true, false, cond, ◌&&◌, eqb, ltb, ◌⊎◌, List, [], ◌∷◌, ◌++◌, length, get_or, Some, None, Ok, Err, Option, Result, sym, refl, ap, ◌∙◌, subst, ap₂, inl, inr, arith}
+use Rattle.std.proofs.Common.{◌≡◌, ℕ, zero, suc, ◌+◌, ◌<◌, Bool, true, false, cond, eqb, ltb, ◌⊎◌, List, [], ◌∷◌, ◌++◌, length, get_or, Some, None, Ok, Err, Option, Result, sym, refl, ap, ◌∙◌, subst, inl, inr, arith}
 use Rattle.std.specs.List.{AllByRecursion as All}
-use Rattle.std.proofs.lemmas.List.{append_assoc, append-nil, length-append, length_push, nil_from_length, get_or_append_left, get_or_at}
-use Rattle.std.proofs.lemmas.Bool.{cases_Bool, eqb-true, eqb-false, ltb-true, ltb-false, le-ltb}
+use Rattle.std.proofs.lemmas.List.{append_assoc, append-nil, length-append, nil_from_length, get_or_append_left, get_or_at}
+use Rattle.std.proofs.lemmas.Bool.{eqb-true, eqb-false, ltb-true, le-ltb}
 use Rattle.payload.specs.declared.Payload.{Payload}
 use Rattle.payload.specs.Order.{rank, Rising}
-use Rattle.payload.specs.Lists.{inserted_into}
 use Rattle.payload.proofs.Orders.{far}
 use Rattle.payload.proofs.Laws.{inserted_rises}
 use Rattle.listing.specs.Texts.{line_text, lines_text, head_text, list_text}
 use Rattle.listing_reader.specs.declared.Why.{Why}
 use Rattle.listing_reader.specs.declared.Why.TheVariants.{Head, Room, Surplus}
 use Rattle.listing_reader.specs.declared.BadLine.{BadLine}
-use Rattle.listing_reader.specs.Lines.{head_of, comes_after, next_of, Reading, wrong, go_on, ended, lines_of, no_head, from_head, list_of}
-use Rattle.listing_reader.specs.Laws.{Good, Whole, NoLine, NoHead, Stuck, WrongAt, Told, Tells, ReadsBack, ReadsOnly}
+use Rattle.listing_reader.specs.Lines.{head_of, comes_after, next_of, Reading, wrong, go_on, lines_of, no_head, from_head}
+use Rattle.listing_reader.specs.Laws.{Good, Whole, NoLine, NoHead, Told, Tells, ReadsBack, ReadsOnly}
 use Rattle.listing_reader.proofs.Orders.{after_from, inserted_last}
 use Rattle.listing_reader.proofs.Lines.{head_reads, head_inv, next_reads, Line, next_inv}
 

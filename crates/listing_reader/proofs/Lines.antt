@@ -1,21 +1,20 @@
 -- A line in print is read as its payload, and a line that is read is in print. Assumes nothing.
-use Rattle.std.proofs.Common.{◌≡◌, ℕ, zero, suc, ◌+◌, ◌^◌, ◌<◌, ◌≤◌, Bool, true, false, cond, ◌&&◌, eqb, ltb, ◌⊎◌, List, [], ◌∷◌, ◌++◌, length, Some, None, Ok, Err, codes, decimal, Option, Result, sym, refl, ap, ◌∙◌, subst, ap₂, inl, inr, arith}
+use Rattle.std.proofs.Common.{◌≡◌, ℕ, ◌^◌, ◌<◌, Bool, true, false, cond, ◌&&◌, eqb, ltb, List, ◌∷◌, ◌++◌, length, Some, None, Ok, Err, codes, decimal, Option, Result, sym, refl, ap, ◌∙◌, subst, arith}
 use Rattle.std.proofs.lemmas.List.{append_assoc, nil_from_length}
-use Rattle.std.proofs.lemmas.Bool.{cases_Bool, lt-ltb, and_from, ne_eqb}
+use Rattle.std.proofs.lemmas.Bool.{lt-ltb, and_from, ne_eqb}
 use Rattle.payload.specs.declared.Payload.{Payload}
 use Rattle.payload.specs.declared.Prefix.{Prefix}
 use Rattle.payload.specs.Order.{lawful}
 use Rattle.payload.specs.Laws.{Sized}
 use Rattle.listing.specs.Texts.{address_text, line_text, head_text}
 use Rattle.listing.specs.Laws.{Lawful}
-use Rattle.listing.proofs.Tellings.{opened, line_opens, head_opens, line_some}
+use Rattle.listing.proofs.Tellings.{line_opens, head_opens, line_some}
 use Rattle.route_text.specs.Pieces.{then_some, after_word, number_of, prefix_of}
-use Rattle.route_text.specs.Laws.{starts_digit, prefix_text}
 use Rattle.route_text.proofs.Steps.{after_own, after_inv}
 use Rattle.route_text.proofs.Numbers.{reads_number}
 use Rattle.route_text.proofs.Laws.{reads_prefix}
 use Rattle.listing_reader.specs.declared.Why.{Why}
-use Rattle.listing_reader.specs.declared.Why.TheVariants.{Missing, Spelling, Prefix as Unlawful, Maximum, Order}
+use Rattle.listing_reader.specs.declared.Why.TheVariants.{Missing, Prefix as Unlawful, Maximum, Order}
 use Rattle.listing_reader.specs.Lines.{sized_of, likely_of, with_rest, line_of, count_of, head_of, fits_max, comes_after, checked, spelt, next_of}
 use Rattle.listing_reader.specs.Laws.{Good}
 

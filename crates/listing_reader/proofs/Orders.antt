@@ -1,12 +1,12 @@
 -- A payload that comes after all of a list. Assumes nothing.
-use Rattle.std.proofs.Common.{◌≡◌, ℕ, zero, suc, ◌+◌, ◌<◌, ◌≤◌, Bool, true, false, cond, ◌&&◌, eqb, ltb, leb, ◌⊎◌, List, [], ◌∷◌, ◌++◌, length, get_or, sym, refl, ap, ◌∙◌, inl, inr, arith}
+use Rattle.std.proofs.Common.{◌≡◌, ℕ, zero, suc, ◌<◌, ◌≤◌, Bool, true, false, cond, eqb, ltb, leb, List, [], ◌∷◌, ◌++◌, length, get_or, sym, refl, ap, ◌∙◌, inl, inr, arith}
 use Rattle.std.proofs.lemmas.Bool.{cases_Bool, cases_lt, and_parts, and_from, lt-ltb, le-ltb, ltb-true, le-leb, lt-leb, ne_eqb}
 use Rattle.payload.specs.declared.Payload.{Payload}
 use Rattle.payload.specs.declared.list.PayloadList.{PayloadList}
 use Rattle.payload.specs.declared.list.Inserted.{Inserted}
 use Rattle.payload.specs.declared.list.Inserted.TheVariants.{Added as Added·way, Present, Full}
 use Rattle.payload.specs.Order.{rank, Placed, Listed, HasAt}
-use Rattle.payload.specs.Lists.{held, room, inserted_into, Inserts, Adds}
+use Rattle.payload.specs.Lists.{held, room, inserted_into, Inserts}
 use Rattle.payload.proofs.Orders.{blank}
 use Rattle.listing_reader.specs.Lines.{comes_after, Added}
 

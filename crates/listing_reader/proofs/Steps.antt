@@ -1,5 +1,5 @@
 -- The steps of the loop over the lines of a text. Assumes nothing.
-use Rattle.std.proofs.Common.{◌≡◌, ℕ, zero, suc, ◌+◌, ◌-◌, ◌<◌, ◌≤◌, Bool, true, false, cond, eqb, List, [], ◌∷◌, ◌++◌, length, drop, Ok, Err, Result, sym, refl, ap, ◌∙◌, arith}
+use Rattle.std.proofs.Common.{◌≡◌, ℕ, suc, ◌+◌, ◌-◌, ◌<◌, ◌≤◌, Bool, cond, List, [], ◌∷◌, ◌++◌, length, drop, Ok, Err, sym, refl, ap, ◌∙◌, arith}
 use Rattle.std.proofs.lemmas.List.{length_push, drop-drop}
 use Rattle.std.proofs.lemmas.Bool.{eq-eqb, ne_eqb}
 use Rattle.payload.specs.declared.Payload.{Payload}
@@ -7,7 +7,7 @@ use Rattle.payload.specs.declared.list.PayloadList.{PayloadList}
 use Rattle.payload.specs.Lists.{held, room}
 use Rattle.listing_reader.specs.declared.Why.{Why}
 use Rattle.listing_reader.specs.declared.Why.TheVariants.{Surplus}
-use Rattle.listing_reader.specs.Lines.{next_of, Added, Reading, wrong, go_on, ended, lines_of}
+use Rattle.listing_reader.specs.Lines.{next_of, Added, wrong, go_on, ended, lines_of}
 
 pub lines_next : (n i : ℕ) (ps : List Payload) (s : List ℕ) (q : Payload × List ℕ) → i < n → Ok q ≡ next_of ps s → lines_of (n - i) ps s ≡ lines_of (n - (i + 1)) (ps ++ q.0 ∷ []) q.1
 unfolding lines_of

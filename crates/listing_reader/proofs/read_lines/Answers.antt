@@ -1,6 +1,6 @@
 use Rattle.std.proofs.Common.{length, sym}
 use Rattle.std.proofs.lemmas.Bool.{eqb-true, eqb-false}
-use Rattle.listing_reader.proofs.Steps.{Halfway, halfway_none, halfway_more, halfway_rest, halfway_stop, halfway_end, halfway_surplus}
+use Rattle.listing_reader.proofs.Steps.{halfway_none, halfway_more, halfway_rest, halfway_stop, halfway_end, halfway_surplus}
 use Rattle.listing_reader.proofs.read_lines.Goals as goal
 
 pub loop-i-init : goal.loop-i-init
