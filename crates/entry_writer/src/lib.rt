@@ -42,7 +42,7 @@ pub trait WrittenResource: Resource {
         ensures end { result ≡ at + length (text range) }
         ensures after { area.new ≡ laid_at at (text range) area.old };
 
-    ghost entry_laws: { EntryLaws Self.Point.rank Self.Point.fits Self.Resource.entry text };
+    ghost entry_laws: { EntryLaws Self.rank Self.fits Self.entry text };
 }
 
 // Writes a tag and a length of one octet at a place.
