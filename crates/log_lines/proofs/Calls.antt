@@ -1,5 +1,5 @@
 -- A line says a call exactly where it is that call's text. Assumes nothing.
-use Rattle.std.proofs.Common.{◌≡◌, ℕ, ◌%◌, ◌<◌, Bool, true, false, cond, not, ◌&&◌, eqb, ◌⊎◌, List, [], ◌∷◌, ◌++◌, length, is_some, Some, None, Ok, Err, codes, Option, Result, sym, refl, ap, ◌∙◌, subst, inl, inr, append_assoc, arith}
+use Rattle.std.proofs.Common.{◌≡◌, ℕ, ◌%◌, ◌<◌, Bool, true, false, cond, not, ◌&&◌, eqb, List, [], ◌∷◌, ◌++◌, length, is_some, Some, None, Ok, Err, codes, Option, Result, sym, refl, ap, ◌∙◌, subst, inl, inr, append_assoc, arith}
 use Rattle.std.specs.List.{AllByRecursion as All}
 use Rattle.std.specs.Str.{bytes_eq}
 use Rattle.std.proofs.lemmas.Bool.{cases_Bool, eqb-false, ne_eqb, and_parts, not-true, not-false}
@@ -12,7 +12,7 @@ use Rattle.log_lines.specs.declared.Why.TheVariants.{CarriageReturn, EmptyWord, 
 use Rattle.log_lines.specs.declared.Name.{Name}
 use Rattle.log_lines.specs.declared.Name.TheVariants.{Element as Element·name, Digest as Digest·name, Verdict as Verdict·name}
 use Rattle.log_lines.specs.Words.{words_of, spaced, lacking, take_word}
-use Rattle.log_lines.specs.Lines.{Said, digits, path, Source, scheme, book, Asked, element, digest, verdict, Told, nothing, call, and_then, stripped, digits_of, path_of, sort_of, octets_of, argument_of, source_of, oracle_of, verdict_of, spelt, calls, named, name_of, arguments_of, call_of, ended, whole_of, silent, line_of, written, Lawful, LawfulSource, LawfulCall, source_words, call_words, CallLine, ReadsCalls, ElementLine, ReadsElements}
+use Rattle.log_lines.specs.Lines.{Said, digits, path, Source, scheme, book, Asked, element, digest, verdict, Told, nothing, call, and_then, stripped, digits_of, path_of, sort_of, octets_of, argument_of, source_of, oracle_of, spelt, calls, named, name_of, arguments_of, call_of, ended, whole_of, silent, line_of, written, Lawful, LawfulSource, LawfulCall, source_words, call_words, CallLine, ReadsCalls, ElementLine, ReadsElements}
 use Rattle.log_lines.proofs.Pieces.{spaced_words, spaceless_words, words_spaced, stripped_inv}
 
 -- two answers that differ

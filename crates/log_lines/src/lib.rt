@@ -4,10 +4,10 @@
 // else says why the line is no call. Its answer is what `line_of` of specs/Lines.antt defines, and it is a call exactly where the line is that call's
 // text, as `element OCTETS`. `Words` goes through the words of a line, which a single space separates, one by one: the words, joined by single spaces,
 // are the line. `read_octets` reads a word that writes octets, by `hex:` and digits or by `@` and a path. Digits that it gives are even in number, and
-// each is one, so that they can be decoded. What is read is lent from the line, and nothing is allocated. The crate rests on `hex`, for the digits.
+// each is one, so that they can be decoded. What is read is lent from the line, and nothing is allocated. The crate rests on `hex_text`, for the digits.
 //
 // A further call is a variant of `Call` and of `Name`, an `if` in `read_name` and an arm in `read_call`, with its lines in specs/ (`Asked`, `spelt`,
-// `calls`, `argumentsOf`, `LawfulCall`, `call_words`, `asked`) and in proofs/Calls.antt (`arguments-inv`, `whole-written`, `words-call`, `loud-call`).
+// `calls`, `arguments_of`, `LawfulCall`, `call_words`, `asked`) and in proofs/Calls.antt (`arguments_inv`, `whole_written`, `words_call`, `loud_call`).
 #![tactic(auto)]
 
 ghost use Rattle.std.specs.Prelude.{◌≡◌, ◌≤◌, true, not, length, IfOk};

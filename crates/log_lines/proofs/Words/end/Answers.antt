@@ -1,4 +1,4 @@
-use Rattle.std.proofs.Common.{◌≡◌, ℕ, List, Option, sym, ap, ◌∙◌, Bor}
+use Rattle.std.proofs.Common.{ℕ, List, Option, sym, ap, ◌∙◌, Bor}
 use Rattle.log_lines.specs.Lines.{ended}
 use Rattle.log_lines.specs.Views.{pieces}
 use Rattle.log_lines.proofs.Pieces.{end_empty, end_some}
