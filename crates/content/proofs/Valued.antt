@@ -1,9 +1,9 @@
 -- The values of contents: each content has one, and each value one content. Assumes nothing.
-use Rattle.std.proofs.Common.{◌≡◌, ℕ, ◌<◌, ◌≤◌, Bool, true, false, cond, eqb, ltb, leb, ◌⊎◌, List, [], ◌∷◌, length, get_or, drop, Some, None, Decides, Option, sym, refl, ap, ◌∙◌, subst, inl, inr, arith}
+use Rattle.std.proofs.Common.{◌≡◌, ℕ, ◌<◌, Bool, true, false, cond, eqb, leb, List, [], ◌∷◌, length, get_or, drop, Some, None, Decides, sym, refl, ap, ◌∙◌, inl, inr, arith}
 use Rattle.std.proofs.lemmas.Bool.Decides.{nat_tests, same_from_decides}
 use Rattle.content.specs.Forms.{boolean_form, integer_form, bits_form, oid_form}
 use Rattle.content.specs.Values.{boolean_of, integer_of, bits_of, oid_of}
-use Rattle.content.specs.Grammar.{BooleanContent, IntegerContent, BitStringContent, OidContent, BooleanValue, IntegerValue, BitStringValue, OidValue, ValueIn, OneToOne, ValuesOneToOne}
+use Rattle.content.specs.Grammar.{BooleanContent, IntegerContent, BitStringContent, OidContent, BooleanValue, IntegerValue, BitStringValue, OidValue, ValueIn, ValuesOneToOne}
 use Rattle.content.proofs.Decided.{boolean_decides, integer_decides, bits_decides, oid_decides}
 
 -- a value of a content of lawful form, and none of any other

@@ -1,10 +1,9 @@
 -- A header reads as it was written, and only so. Assumes nothing.
-use Rattle.std.proofs.Common.{◌≡◌, ℕ, zero, suc, ◌+◌, ◌-◌, ◌*◌, ◌/◌, ◌%◌, ◌<◌, ◌≤◌, Bool, true, false, cond, eqb, ltb, leb, ◌⊎◌, List, [], ◌∷◌, ◌++◌, length, get_or, take, drop, Ok, Err, Result, sym, refl, ap, ◌∙◌, subst, inl, inr, append_assoc, arith}
+use Rattle.std.proofs.Common.{◌≡◌, ℕ, suc, ◌+◌, ◌*◌, ◌/◌, ◌%◌, ◌<◌, ◌≤◌, List, [], ◌∷◌, ◌++◌, length, get_or, take, Ok, sym, refl, ap, ◌∙◌, subst, inl, inr, arith}
 use Rattle.std.proofs.lemmas.Bool.Decides.{nat_tests, leb_tells, eqb_tells}
-use Rattle.fault.specs.declared.Breach.{Breach}
 use Rattle.element.specs.declared.Header.{Header}
-use Rattle.element.specs.Lengths.{longest, length_octets, header, encoded}
-use Rattle.element.specs.Reading.{whole_of, longer_of, measured}
+use Rattle.element.specs.Lengths.{longest, length_octets, header}
+use Rattle.element.specs.Reading.{measured}
 
 short_head : (t n : ℕ) (r : List ℕ) → n < 128 → n ≤ length r → measured (t ∷ (n ∷ r)) ≡ Ok record { octets = 2; content = n }
 short_head t n r h k = grind (arith, nat_tests)

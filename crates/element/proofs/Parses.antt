@@ -1,12 +1,11 @@
 -- Reading decides the grammar: it answers the element with which the octets begin, and refuses where they begin
 -- with none. Assumes nothing.
-use Rattle.std.proofs.Common.{◌≡◌, ℕ, zero, suc, ◌+◌, ◌-◌, ◌<◌, ◌≤◌, Bool, true, false, cond, List, [], ◌∷◌, ◌++◌, length, get_or, take, drop, Ok, Err, Result, sym, refl, ap, ◌∙◌, subst, append_assoc, arith, length-append, length-drop, take-append-drop}
+use Rattle.std.proofs.Common.{◌≡◌, ℕ, ◌+◌, ◌<◌, ◌≤◌, List, [], ◌++◌, length, get_or, take, drop, Ok, Err, Result, sym, refl, ap, ◌∙◌, subst, append_assoc, arith, length-append, length-drop, take-append-drop}
 use lib.Seq.{take-append_seam, drop-append_seam, drop-append-add}
 use Rattle.std.proofs.lemmas.List.{drop-drop, length-take-le}
 use Rattle.std.proofs.lemmas.Bool.Decides.{nat_tests}
 use Rattle.fault.specs.declared.Breach.{Breach}
 use Rattle.fault.specs.declared.ElementFault.{ElementFault}
-use Rattle.content.specs.declared.Kind.{Kind}
 use Rattle.content.specs.Tags.{kind_of}
 use Rattle.content.specs.Forms.{form_of}
 use Rattle.content.specs.Grammar.{ContentOf, Checked}

@@ -1,6 +1,6 @@
 -- What is written reads back, and an area keeps what stands past it. Assumes nothing.
-use Rattle.std.proofs.Common.{◌≡◌, ℕ, zero, suc, ◌+◌, ◌-◌, ◌<◌, ◌≤◌, Bool, true, false, cond, ltb, List, [], ◌∷◌, ◌++◌, length, get_or, take, drop, Ok, Err, Result, sym, refl, ap, ◌∙◌, subst, append_assoc, append-nil, arith, length-append, length-drop}
-use lib.Seq.{take-append_seam, drop-append_seam, drop-append-add, take-append-add}
+use Rattle.std.proofs.Common.{◌≡◌, ℕ, ◌+◌, ◌-◌, ◌<◌, ◌≤◌, cond, ltb, List, [], ◌++◌, length, get_or, take, drop, Ok, Err, Result, sym, refl, ap, ◌∙◌, append_assoc, append-nil, arith, length-append}
+use lib.Seq.{take-append_seam, drop-append_seam}
 use borrow.Rule.Slice.PartMut.{put_mid}
 use Rattle.std.proofs.lemmas.List.{drop-drop}
 use Rattle.std.proofs.lemmas.Bool.Decides.{nat_tests}
@@ -17,7 +17,7 @@ use Rattle.element.specs.Lengths.{longest, length_octets, header, encoded}
 use Rattle.element.specs.Reading.{Seen, Octets, read_of}
 use Rattle.element.specs.Grammar.{Begins, OneEncoding}
 use Rattle.element.specs.Writing.{room_for, header_written, element_written, ReadsBack}
-use Rattle.element.proofs.Parses.{Found, begins_found, answer-element}
+use Rattle.element.proofs.Parses.{begins_found, answer-element}
 
 pub length_encoded : (t : ℕ) (c : List ℕ) → length (encoded t c) ≡ (1 + length (length_octets (length c))) + length c
 length_encoded t c = length-append (header t (length c)) c ∙ omega arith

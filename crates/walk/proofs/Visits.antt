@@ -1,12 +1,11 @@
 -- What a step of a walk saw, from what the reader answered. Assumes nothing.
-use Rattle.std.proofs.Common.{◌≡◌, ℕ, ◌+◌, ◌-◌, ◌<◌, ◌≤◌, Bool, true, false, cond, ◌⊎◌, List, length, take, drop, Ok, Err, Result, sym, refl, ap, ◌∙◌, subst, inl, inr, arith, length-drop}
+use Rattle.std.proofs.Common.{◌≡◌, ℕ, ◌+◌, ◌-◌, ◌<◌, ◌≤◌, Bool, true, false, cond, ◌⊎◌, List, length, drop, Ok, Err, sym, subst, inl, inr, arith, length-drop}
 use Rattle.std.proofs.lemmas.List.{length-take-le}
 use Rattle.fault.specs.declared.ElementFault.{ElementFault}
 use Rattle.element.specs.Reading.{Seen, Octets, read_of}
 use Rattle.element.specs.Grammar.{Parsed}
 use Rattle.walk.specs.Steps.{span, Visited, Stepped}
-use Rattle.walk.specs.declared.WalkError.{WalkError}
-use Rattle.walk.specs.declared.WalkError.TheVariants.{Fault, Memory}
+use Rattle.walk.specs.declared.WalkError.TheVariants.{Fault}
 
 length_span : (file : List ℕ) (from to : ℕ) → to ≤ length file → length (span file from to) ≡ to - from
 length_span file from to h = length-take-le (to - from) (drop from file) (simp length-drop (omega arith))

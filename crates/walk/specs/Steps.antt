@@ -1,6 +1,5 @@
 -- The steps of a walk over the elements of a file. Assumes nothing.
-use Rattle.std.specs.Prelude.{◌≡◌, ℕ, ◌+◌, ◌-◌, ◌/◌, ◌%◌, ◌<◌, ◌≤◌, min, Bool, cond, not, ◌&&◌, ◌||◌, List, length, Some, None, Ok, Err, Option, Result, ◌==◌, nat_le, slice_index, slice_range}
-use Rattle.fault.specs.declared.ElementFault.{ElementFault}
+use Rattle.std.specs.Prelude.{◌≡◌, ℕ, ◌-◌, ◌/◌, ◌%◌, ◌<◌, ◌≤◌, min, Bool, cond, not, ◌&&◌, ◌||◌, List, length, Some, None, Ok, Err, Option, Result, ◌==◌, nat_le, slice_index, slice_range}
 use Rattle.element.specs.Reading.{Seen, Octets, seen, read_of}
 use Rattle.walk.specs.declared.Node.{Node}
 use Rattle.walk.specs.declared.WalkError.{WalkError}

@@ -1,4 +1,4 @@
-use Rattle.std.proofs.Common.{true, sym, refl, ◌∙◌, rules}
+use Rattle.std.proofs.Common.{sym, ◌∙◌}
 use Rattle.std.proofs.lemmas.List.{at_drop_all}
 use Rattle.content.specs.Forms.{arcs}
 use Rattle.content.proofs.Loops.{arcs_here, arcs-within, arcs-between, arcs_sum}

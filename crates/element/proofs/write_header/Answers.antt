@@ -1,4 +1,4 @@
-use Rattle.std.proofs.Common.{refl, arith}
+use Rattle.std.proofs.Common.{refl}
 use Rattle.element.proofs.Writes.{header_short, header-fits, header_room}
 use Rattle.element.proofs.write_header.Goals as goal
 
