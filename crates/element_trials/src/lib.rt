@@ -28,7 +28,7 @@ mod tests {
             assert!(rt; element.tag == 0x04);
             assert!(rt; element.content.octets == content.as_slice());
             assert!(rt; rest.place == whole);
-            assert!(rt; rest.octets == [0xee, 0xee, 0xee]);
+            assert!(rt; rest.octets == [0xee, 0xee, 0xee].as_slice());
             let mut short = vec![in heap; 0xeeu8; whole - 1]?;
             assert_eq!(rt;
                 write(0x04, content.as_slice(), short.as_mut_slice()),
@@ -73,14 +73,14 @@ mod tests {
                 return Err(Fail::new("one octet is an INTEGER"));
             };
             assert!(rt; value.negative == negative);
-            assert!(rt; value.octets == [octet]);
+            assert!(rt; value.octets == [octet].as_slice());
         }
         assert!(rt; read_integer(&[0x00, 0x7f]).is_none());
         let Some(bits) = read_bit_string(&[0x04, 0x0a, 0x40]) else {
             return Err(Fail::new("10.64.0.0/12 is a BIT STRING"));
         };
         assert!(rt; bits.unused == 4);
-        assert!(rt; bits.octets == [0x0a, 0x40]);
+        assert!(rt; bits.octets == [0x0a, 0x40].as_slice());
         assert!(rt; read_bit_string(&[0x04, 0x0a, 0x41]).is_none());
         assert!(rt; read_oid(&[0x2a, 0x86, 0x48]).is_some());
         assert!(rt; read_oid(&[0x2a, 0x80, 0x01]).is_none());
