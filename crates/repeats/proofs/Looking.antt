@@ -1,8 +1,8 @@
 -- Looking for repeats while reading is the same parts looking after it. Assumes nothing.
-use Rattle.std.proofs.Common.{◌≡◌, ℕ, zero, suc, ◌+◌, Bool, true, false, cond, List, [], ◌∷◌, ◌++◌, map, length, get_or, Some, None, Ok, Err, Option, Result, sym, refl, ap, ◌∙◌, subst}
+use Rattle.std.proofs.Common.{◌≡◌, ℕ, zero, suc, ◌+◌, Bool, true, false, cond, List, [], ◌∷◌, ◌++◌, map, length, Some, None, Ok, Err, Option, Result, sym, refl, ap, ◌∙◌}
 use Rattle.std.proofs.lemmas.List.{get_or_at, append_assoc, length_push}
-use Rattle.repeats.specs.Repeats.{among, first_repeat, repeat_after, place_at}
-use Rattle.repeats.specs.Reading.{Reader, onward, on_first, tested, Noted, note_onward, note_first, noted, unless_repeat, repeat_in, decided, LookingAfter}
+use Rattle.repeats.specs.Repeats.{among, repeat_after, place_at}
+use Rattle.repeats.specs.Reading.{Reader, onward, on_first, tested, Noted, note_onward, note_first, noted, unless_repeat, LookingAfter}
 
 module _ {S A E : Type 0} (r : Reader S A E) where
   -- the place of the first repeat among first parts, where some keys were seen before them

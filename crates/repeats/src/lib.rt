@@ -4,8 +4,8 @@
 // to name. `repeat_place` then answers the place of the first string that is the same as one before it, and
 // `first_repeat` its number; or that all are different. The spots are sorted by their octets and then by their numbers,
 // so that equal strings are neighbours, and the answer is the least number of a spot that follows one of the same
-// octets. A heap puts them in order, and the sort of `std`, which only looks over spots in order and is slower by a
-// logarithm on others, has the proof that the order is right: no choice of strings makes it slow.
+// octets. A heap puts them in order, and the sort of `std`, which then only looks over them, has the proof that the order
+// is right: no choice of strings makes it slow.
 // specs/Repeats.antt has what the calls promise, and specs/Reading.antt that to look for repeats after a reading is the
 // same as to look while reading. The callers number the spots from 0, as `note` does. The crate rests on `std` alone.
 #![tactic(auto)]

@@ -1,8 +1,7 @@
-use Rattle.std.proofs.Common.{◌≡◌, ℕ, length, Option, sym, ◌∙◌, subst}
+use Rattle.std.proofs.Common.{ℕ, length, Option, sym, refl, subst}
 use Rattle.std.specs.List.Sorted.{IsPermutation}
 use Rattle.std.proofs.lemmas.List.Sorted.{IsPermutation-trans}
 use Rattle.repeats.specs.Repeats.{keys_of, first_repeat}
-use Rattle.repeats.proofs.Order.{spots_order}
 use Rattle.repeats.proofs.First.{Answers, one_answer, first_answers}
 use Rattle.repeats.proofs.Sorting.{answers_from_sort}
 use Rattle.repeats.proofs.first_repeat.Goals as goal
@@ -11,8 +10,8 @@ pub returns : goal.returns
 returns c =
     let xs = c.args.spots.now in
     let zs = c.arrange.new.spots in
-    let ys = c.sort.new.self in
-    let s : IsPermutation xs ys = IsPermutation-trans xs zs ys c.arrange.ensures c.sort.ensures.permutation in
+    let ys = c.sort_unstable.new.self in
+    let s : IsPermutation xs ys = IsPermutation-trans xs zs ys c.arrange.ensures c.sort_unstable.ensures.permutation in
     let a : Answers c.least_next.result (keys_of xs) =
-    subst (λ (r : Option ℕ). Answers r (keys_of xs)) (sym c.least_next.ensures) (answers_from_sort xs ys c.requires s (length zs) c.sort.ensures.len (c.sort.ensures.sorted spots_order)) in
+    subst (λ (r : Option ℕ). Answers r (keys_of xs)) (sym c.least_next.ensures) (answers_from_sort xs ys c.requires s (length ys) refl c.sort_unstable.ensures.sorted) in
     record { value = one_answer (keys_of xs) c.least_next.result (first_repeat (keys_of xs)) a (first_answers (keys_of xs)); plain = a; same = s }
