@@ -22,7 +22,7 @@ use ranges::{Range, is_lawful};
 // How many octets the entries of a list have.
 fn entries_size<P: WrittenResource>(list: &[Range<P>]) -> usize
     requires { length list.now ≤ 256 }
-    ensures value { result ≡ length (entries_text text list.now) }
+    ensures value { result ≡ length (entries_text P.text list.now) }
     ensures most { result ≤ 10240 }
 {
     let mut size = 0;
@@ -34,8 +34,8 @@ fn entries_size<P: WrittenResource>(list: &[Range<P>]) -> usize
 
 // Writes the entries of a list at a place that has room for them.
 fn write_entries<P: WrittenResource>(list: &[Range<P>], area: &mut [u8], at: usize)
-    requires { at + length (entries_text text list.now) ≤ length area.old }
-    ensures { area.new ≡ laid_at at (entries_text text list.now) area.old }
+    requires { at + length (entries_text P.text list.now) ≤ length area.old }
+    ensures { area.new ≡ laid_at at (entries_text P.text list.now) area.old }
 {
     let mut next = at;
     for range in list {
@@ -46,9 +46,9 @@ fn write_entries<P: WrittenResource>(list: &[Range<P>], area: &mut [u8], at: usi
 // Writes the element of a list at the front of the area, and answers how many octets it took. Refused where the list is not
 // lawful, and then where the area is too short.
 pub fn write<P: WrittenResource>(list: &[Range<P>], area: &mut [u8]) -> Result<usize, Rule>
-    ensures value { result ≡ list_written P.Point.rank text list.now (length area.old) }
-    ensures after { area.new ≡ laid result (list_text text list.now) area.old }
-    ensures reads { IfOk result (λ n. (at : ℕ) → ReadsAsList P.Point.rank P.Point.fits P.Resource.entry text (take n area.new) at list.now) }
+    ensures value { result ≡ list_written P.rank P.text list.now (length area.old) }
+    ensures after { area.new ≡ laid result (list_text P.text list.now) area.old }
+    ensures reads { IfOk result (λ n. (at : ℕ) → ReadsAsList P.rank P.fits P.entry P.text (take n area.new) at list.now) }
 {
     if !is_lawful(list) {
         return Err(Rule::Order);
@@ -66,9 +66,9 @@ pub fn write<P: WrittenResource>(list: &[Range<P>], area: &mut [u8]) -> Result<u
 // as the same octets, and so that no two lawful lists have the same octets, at every kind of points.
 pub fn lists_have_one_encoding<P: WrittenResource>() -> bool
     ensures shown { result ≡ true }
-    ensures reading { ReadsBack P.Point.rank P.Point.fits P.Resource.entry text }
-    ensures writing { WrittenAgain P.Point.rank P.Point.fits P.Resource.entry text }
-    ensures one { OneList P.Point.rank P.Point.fits P.Resource.entry text }
+    ensures reading { ReadsBack P.rank P.fits P.entry P.text }
+    ensures writing { WrittenAgain P.rank P.fits P.entry P.text }
+    ensures one { OneList P.rank P.fits P.entry P.text }
 {
     let shown = true;
     shown
