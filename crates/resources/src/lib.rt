@@ -134,8 +134,8 @@ fn choice<'a>(input: Part<'a>, may: May) -> Result<(Element<'a>, Part<'a>), SetF
 fn held_in<P: Resource>(element: &Element<'_>, table: &mut [Range<P>]) -> Result<Held, SetFault>
     requires place { Placed element.now.content }
     requires size { length table.old ≡ 256 }
-    ensures value { reported set_report result ≡ held_of P.Point.rank entry (seen element.now) }
-    ensures table { table.new ≡ kept (ranges_in P.Point.rank entry (seen element.now)) table.old }
+    ensures value { reported set_report result ≡ held_of P.rank P.entry (seen element.now) }
+    ensures table { table.new ≡ kept (ranges_in P.rank P.entry (seen element.now)) table.old }
 {
     if element.tag == 0x05 {
         return Ok(Held::Inherited);
@@ -158,8 +158,8 @@ fn read_part<P: Resource>(
 ) -> Result<Held, SetFault>
     requires place { Placed content }
     requires size { length table.old ≡ 256 }
-    ensures value { reported set_report result ≡ read_part P.Point.rank entry may (octets_of content.entry) }
-    ensures table { table.new ≡ kept (ranges_of P.Point.rank entry may (octets_of content.entry)) table.old }
+    ensures value { reported set_report result ≡ read_part P.rank P.entry may (octets_of content.entry) }
+    ensures table { table.new ≡ kept (ranges_of P.rank P.entry may (octets_of content.entry)) table.old }
 {
     let (element, rest) = choice(content, may)?;
     let held = held_in(&element, table)?;
