@@ -1,5 +1,5 @@
 -- The names of address families in their order (RFC 3779 2.2.3.3, RFC 9582 4.3.1). Assumes nothing.
-use Rattle.std.specs.Prelude.{ℕ, cond, ◌&&◌, List, length, Ok, Err, Result, ◌==◌, nat_le, slice_index}
+use Rattle.std.specs.Prelude.{ℕ, cond, ◌&&◌, List, length, Ok, Result, ◌==◌, nat_le, slice_index}
 use Rattle.fault.specs.declared.Rule.TheVariants.{Value}
 use Rattle.fault.specs.declared.Layer.{Layer}
 use Rattle.fault.specs.declared.Report.{Report}
