@@ -1,5 +1,5 @@
 -- What follows an element that a layout wants is no longer than what it was read from. Assumes nothing.
-use Rattle.std.proofs.Common.{◌≡◌, ℕ, ◌<◌, ◌≤◌, Bool, true, false, cond, eqb, length, Ok, Err, Result, sym, refl, ap, arith}
+use Rattle.std.proofs.Common.{◌≡◌, ℕ, ◌≤◌, Bool, true, false, cond, eqb, length, Ok, Err, Result, refl, ap, arith}
 use Rattle.fault.specs.declared.Layer.{Layer}
 use Rattle.fault.specs.declared.Report.{Report}
 use Rattle.fault.specs.declared.Rule.TheVariants.{Structure}

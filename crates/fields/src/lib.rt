@@ -28,7 +28,7 @@ fn is_constant(content: &[u8], n: u8) -> bool
 // The INTEGER n, a number below 128, is next: the octets after it.
 pub fn constant_integer<'a, F: LayerFault>(input: Part<'a>, n: u8) -> Result<Part<'a>, F>
     requires { Placed input }
-    ensures value { told_by told octets_of result ≡ constant_of layer n (octets_of input.entry) }
+    ensures value { told_by F.told octets_of result ≡ constant_of F.layer n (octets_of input.entry) }
     ensures placed { IfOk result (λ p. Placed p) }
 {
     let (element, rest) = expect::<F>(input, 0x02)?;
@@ -41,7 +41,7 @@ pub fn constant_integer<'a, F: LayerFault>(input: Part<'a>, n: u8) -> Result<Par
 // An AS number, an INTEGER of 32 bits, and the octets after it.
 pub fn as_number<'a, F: LayerFault>(input: Part<'a>) -> Result<(u32, Part<'a>), F>
     requires { Placed input }
-    ensures value { told_by told (λ p. (p.0, octets_of p.1)) result ≡ as_number_of layer (octets_of input.entry) }
+    ensures value { told_by F.told (λ p. (p.0, octets_of p.1)) result ≡ as_number_of F.layer (octets_of input.entry) }
     ensures placed { IfOk result (λ p. Placed p.1) }
 {
     let (element, rest) = expect::<F>(input, 0x02)?;
@@ -68,7 +68,7 @@ fn is_serial(content: &[u8]) -> bool
 // An INTEGER from 0 of at most 20 octets: its content, and the octets after it.
 pub fn number20<'a, F: LayerFault>(input: Part<'a>) -> Result<(Part<'a>, Part<'a>), F>
     requires { Placed input }
-    ensures value { told_by told both_of result ≡ number20_of layer (octets_of input.entry) }
+    ensures value { told_by F.told both_of result ≡ number20_of F.layer (octets_of input.entry) }
     ensures placed { IfOk result (λ p. Placed p.0 × Placed p.1) }
 {
     let (element, rest) = expect::<F>(input, 0x02)?;
@@ -81,7 +81,7 @@ pub fn number20<'a, F: LayerFault>(input: Part<'a>) -> Result<(Part<'a>, Part<'a
 // A serial, a positive INTEGER of at most 20 octets: its content, and the octets after it.
 pub fn serial<'a, F: LayerFault>(input: Part<'a>) -> Result<(Part<'a>, Part<'a>), F>
     requires { Placed input }
-    ensures value { told_by told both_of result ≡ serial_of layer (octets_of input.entry) }
+    ensures value { told_by F.told both_of result ≡ serial_of F.layer (octets_of input.entry) }
     ensures placed { IfOk result (λ p. Placed p.0 × Placed p.1) }
 {
     let (element, rest) = expect::<F>(input, 0x02)?;
@@ -107,7 +107,7 @@ fn after_first<'a>(part: Part<'a>) -> Part<'a>
 // A BIT STRING without unused bits: its octets, and the octets after it.
 pub fn whole_bits<'a, F: LayerFault>(input: Part<'a>) -> Result<(Part<'a>, Part<'a>), F>
     requires { Placed input }
-    ensures value { told_by told both_of result ≡ whole_bits_of layer (octets_of input.entry) }
+    ensures value { told_by F.told both_of result ≡ whole_bits_of F.layer (octets_of input.entry) }
     ensures placed { IfOk result (λ p. Placed p.0 × Placed p.1) }
 {
     let (element, rest) = expect::<F>(input, 0x03)?;
@@ -120,7 +120,7 @@ pub fn whole_bits<'a, F: LayerFault>(input: Part<'a>) -> Result<(Part<'a>, Part<
 
 // The moment that an element says: UTCTime through 2049, GeneralizedTime from 2050.
 fn time_in<F: LayerFault>(element: &Element<'_>) -> Result<Moment, F>
-    ensures { told_by told number_in result ≡ time_in layer (seen element.now) }
+    ensures { told_by F.told number_in result ≡ time_in F.layer (seen element.now) }
 {
     let content = element.content.octets;
     let said = match element.tag {
@@ -140,7 +140,7 @@ fn time_in<F: LayerFault>(element: &Element<'_>) -> Result<Moment, F>
 // A time, as UTCTime through 2049 and as GeneralizedTime from 2050, and the octets after it.
 pub fn time<'a, F: LayerFault>(input: Part<'a>) -> Result<(Moment, Part<'a>), F>
     requires { Placed input }
-    ensures value { told_by told moment_and result ≡ time_of layer (octets_of input.entry) }
+    ensures value { told_by F.told moment_and result ≡ time_of F.layer (octets_of input.entry) }
     ensures placed { IfOk result (λ p. Placed p.1) }
 {
     let (element, rest) = next::<F>(input)?;
@@ -151,7 +151,7 @@ pub fn time<'a, F: LayerFault>(input: Part<'a>) -> Result<(Moment, Part<'a>), F>
 // A GeneralizedTime of any year, and the octets after it.
 pub fn gtime<'a, F: LayerFault>(input: Part<'a>) -> Result<(Moment, Part<'a>), F>
     requires { Placed input }
-    ensures value { told_by told moment_and result ≡ gtime_of layer (octets_of input.entry) }
+    ensures value { told_by F.told moment_and result ≡ gtime_of F.layer (octets_of input.entry) }
     ensures placed { IfOk result (λ p. Placed p.1) }
 {
     let (element, rest) = expect::<F>(input, 0x18)?;
@@ -181,7 +181,7 @@ pub fn whole<'a, F: LayerFault>(
     tag: u8,
 ) -> Result<(Part<'a>, Element<'a>, Part<'a>), F>
     requires { Placed input }
-    ensures value { told_by told whole_seen result ≡ whole_of layer tag (octets_of input.entry) }
+    ensures value { told_by F.told whole_seen result ≡ whole_of F.layer tag (octets_of input.entry) }
     ensures placed { IfOk result (λ p. Placed p.0 × Placed p.1.content × Placed p.2) }
 {
     let (element, rest) = expect::<F>(input, tag)?;
@@ -191,7 +191,7 @@ pub fn whole<'a, F: LayerFault>(
 // A SEQUENCE that is not looked into: all its octets, tag and length too, and the octets after it.
 pub fn sequence<'a, F: LayerFault>(input: Part<'a>) -> Result<(Part<'a>, Part<'a>), F>
     requires { Placed input }
-    ensures value { told_by told both_of result ≡ sequence_of layer (octets_of input.entry) }
+    ensures value { told_by F.told both_of result ≡ sequence_of F.layer (octets_of input.entry) }
     ensures placed { IfOk result (λ p. Placed p.0 × Placed p.1) }
 {
     let (all, _, rest) = whole::<F>(input, 0x30)?;

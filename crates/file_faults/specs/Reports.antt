@@ -1,5 +1,4 @@
 -- What the faults of whole files report: the rule, the place and the innermost layer. Assumes nothing.
-use Rattle.fault.specs.declared.Layer.{Layer}
 use Rattle.fault.specs.declared.Layer.TheVariants as layer
 use Rattle.fault.specs.declared.Report.{Report}
 use Rattle.fault.specs.Faults.{element_report, set_report}

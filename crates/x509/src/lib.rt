@@ -27,7 +27,7 @@ pub fn same(a: &[u8], b: &[u8]) -> bool
 // The OID of an extension, and the octets after it.
 pub fn open<'a, F: LayerFault>(extension: &Element<'a>) -> Result<(Element<'a>, Part<'a>), F>
     requires { Placed extension.now.content }
-    ensures value { told_by told part_of result ≡ opened_of layer (seen extension.now) }
+    ensures value { told_by F.told part_of result ≡ opened_of F.layer (seen extension.now) }
     ensures placed { IfOk result (λ p. Placed p.0.content × Placed p.1) }
 {
     if extension.tag != 0x30 {
@@ -50,7 +50,7 @@ pub fn value_octets<'a, F: LayerFault>(
     critical: bool,
 ) -> Result<(Element<'a>, Part<'a>), F>
     requires { Placed rest }
-    ensures value { told_by told part_of result ≡ value_octets layer critical (octets_of rest.entry) }
+    ensures value { told_by F.told part_of result ≡ value_octets F.layer critical (octets_of rest.entry) }
     ensures placed { IfOk result (λ p. Placed p.0.content × Placed p.1) }
 {
     let (element, after) = next::<F>(rest)?;
@@ -109,7 +109,7 @@ pub fn key_identifier<'a>(value: Part<'a>, front: &[u8]) -> Option<Part<'a>>
 // What follows a signed part: the same algorithm again, and the signature, whose octets it gives.
 pub fn seal<'a, F: LayerFault>(rest: Part<'a>, algorithm: Part<'_>) -> Result<Part<'a>, F>
     requires { Placed rest }
-    ensures value { told_by told octets_of result ≡ seal_of layer (octets_of algorithm.entry) (octets_of rest.entry) }
+    ensures value { told_by F.told octets_of result ≡ seal_of F.layer (octets_of algorithm.entry) (octets_of rest.entry) }
     ensures placed { IfOk result (λ p. Placed p) }
 {
     let (again, rest) = sequence::<F>(rest)?;
