@@ -2,7 +2,7 @@
 //
 // Each `.._answer` makes one call and gives its answer with a newline. The text is a definition in
 // specs/Answers.antt over the definition of the call's result, and each function promises just that text.
-// It rests on `element` for the reading, on `oracle` for who is asked and on `hex` for octets.
+// It rests on `element` for the reading, on `oracle` for who is asked and on `hex_text` for octets.
 #![tactic(auto)]
 
 ghost use Rattle.std.specs.Prelude.{◌≡◌, IfOk, Ok, string_bytes};
@@ -71,7 +71,7 @@ pub fn digest_answer<O: Oracle>(
     oracle: &O,
     octets: &[u8],
 ) -> Result<String, AllocError>
-    ensures { IfOk result (λ s. string_bytes s ≡ digest_answer (digest_of oracle.now octets.now)) }
+    ensures { IfOk result (λ s. string_bytes s ≡ digest_answer (O.digest_of oracle.now octets.now)) }
 {
     match oracle.digest(octets) {
         Some(digest) => digest_line(heap, &digest),
@@ -97,7 +97,7 @@ pub fn verdict_answer<O: Oracle>(
     message: &[u8],
     signature: &[u8],
 ) -> Result<String, AllocError>
-    ensures { IfOk result (λ s. string_bytes s ≡ verdict_answer (verdict_on oracle.now key.now message.now signature.now)) }
+    ensures { IfOk result (λ s. string_bytes s ≡ verdict_answer (O.verdict_on oracle.now key.now message.now signature.now)) }
 {
     String::from_str(heap, verdict_line(oracle.verifies(key, message, signature)))
 }
