@@ -1,6 +1,6 @@
 -- The subject information access of an authority's certificate (RFC 6487 4.8.8.1): S{S{OID 86}+}, with the folder and the manifest's
 -- name among the descriptions. Assumes nothing.
-use Rattle.std.specs.Prelude.{ℕ, ◌+◌, Bool, true, cond, ◌&&◌, List, [], ◌∷◌, length, is_some, Some, None, Ok, Err, Option, Result}
+use Rattle.std.specs.Prelude.{ℕ, ◌+◌, Bool, true, cond, ◌&&◌, List, [], ◌∷◌, length, is_some, Some, None, Ok, Option, Result}
 use Rattle.std.specs.Option.{option_map}
 use Rattle.std.specs.Str.{bytes_eq}
 use Rattle.fault.specs.declared.Rule.TheVariants.{Structure, Value}

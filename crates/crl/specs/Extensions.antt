@@ -1,12 +1,12 @@
 -- The extensions of a revocation list (RFC 5280 5.2, RFC 6487 5). Assumes nothing.
-use Rattle.std.specs.Prelude.{ℕ, ◌+◌, Bool, true, false, cond, not, ◌&&◌, List, [], ◌∷◌, length, is_some, Some, None, Ok, Err, Option, Result}
+use Rattle.std.specs.Prelude.{ℕ, ◌+◌, false, cond, not, ◌&&◌, List, [], ◌∷◌, length, is_some, Some, None, Ok, Option, Result}
 use Rattle.std.specs.Option.{option_map}
 use Rattle.std.specs.Str.{bytes_eq}
 use Rattle.fault.specs.declared.Rule.TheVariants.{Structure}
 use Rattle.fault.specs.declared.Layer.TheVariants.{Crl}
 use Rattle.fault.specs.declared.Report.{Report}
 use Rattle.element.specs.Reading.{Seen, Octets, octets_of}
-use Rattle.layout.specs.Expecting.{broken, then_read, expect_of, end_of, inside}
+use Rattle.layout.specs.Expecting.{broken, then_read, end_of, inside}
 use Rattle.layout.specs.Rows.{rows_of}
 use Rattle.fields.specs.Fields.{lawful, number20_of}
 use Rattle.x509.specs.Shared.{opened_of, value_octets, key_after, issuer_key_front}

@@ -1,6 +1,6 @@
 -- A revocation list (RFC 5280 5.1, RFC 6487 5): crl = S{S{INT 1 any name time time S{S{serial time}+}? A0{S{ext+}}} any BITS}.
 -- Assumes nothing.
-use Rattle.std.specs.Prelude.{ℕ, cond, List, Some, None, Ok, Err, Option, Result, ◌==◌}
+use Rattle.std.specs.Prelude.{ℕ, cond, List, Some, None, Ok, Option, Result, ◌==◌}
 use Rattle.std.specs.Option.{option_map}
 use Rattle.fault.specs.declared.Rule.TheVariants.{Structure}
 use Rattle.fault.specs.declared.Layer.TheVariants as layer

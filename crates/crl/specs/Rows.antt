@@ -1,5 +1,5 @@
 -- The rows of a revocation list (RFC 5280 5.1.2.6). Assumes nothing.
-use Rattle.std.specs.Prelude.{ℕ, cond, length, Ok, Err, Result, ◌==◌}
+use Rattle.std.specs.Prelude.{cond, length, Result, ◌==◌}
 use Rattle.fault.specs.declared.Rule.TheVariants.{Structure}
 use Rattle.fault.specs.declared.Layer.TheVariants.{Crl}
 use Rattle.fault.specs.declared.Report.{Report}
