@@ -1,4 +1,4 @@
-use Rattle.std.proofs.Common.{◌≡◌, ℕ, List, Option, sym, ap, ◌∙◌, Bor}
+use Rattle.std.proofs.Common.{ℕ, List, Option, sym, ap, ◌∙◌, Bor}
 use Rattle.pieces.specs.Marks.{take_piece}
 use Rattle.pieces.specs.Views.{coming}
 use Rattle.pieces.proofs.Splits.{next_piece}
