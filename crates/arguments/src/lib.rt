@@ -10,7 +10,7 @@
 
 ghost use Rattle.std.specs.Prelude.{◌≡◌, true, IfOk};
 ghost use Rattle.std.specs.Option.{option_map};
-ghost use Rattle.std.specs.List.{AllByRecursion as All};
+ghost use Rattle.std.specs.List.{AllByRecursion};
 ghost use Rattle.std.specs.Str.{bytes_eq};
 ghost use Rattle.pieces.specs.Marks.{lacking};
 ghost use Rattle.arguments.specs.Words.{words_of, spaced, take_word, ended};
@@ -88,7 +88,7 @@ impl<'a> Words<'a> {
     pub fn of(line: &'a [u8]) -> Words<'a>
         ensures value { left result ≡ words_of line.now }
         ensures joined { spaced (words_of line.now) ≡ line.now }
-        ensures spaceless { All (λ w. lacking 32 w ≡ true) (words_of line.now) }
+        ensures spaceless { AllByRecursion (λ w. lacking 32 w ≡ true) (words_of line.now) }
     {
         Words {
             pieces: Pieces::of(line, b' '),

@@ -1,7 +1,7 @@
 -- What a book's answers say of its records. Assumes nothing.
 use Rattle.std.proofs.Common.{◌≡◌, ℕ, Bool, true, false, cond, ◌&&◌, ◌||◌, List, [], ◌∷◌, ◌++◌, Some, None, Decides, Option, sym, refl, ap, ◌∙◌, arith}
 use Rattle.std.specs.Option.{option_or}
-use Rattle.std.specs.List.{AllByRecursion as All}
+use Rattle.std.specs.List.{AllByRecursion}
 use Rattle.std.specs.Str.{bytes_eq}
 use Rattle.std.proofs.lemmas.Slice.Eq.{bytes_eq-Decides}
 use Rattle.std.proofs.lemmas.Bool.Decides.{Decides-and, Decides-like, Decides-by_or}
@@ -57,7 +57,7 @@ first_from s d (r ∷ rs) e = by (first_from s d rs) (digest_said s r) refl e
         let more = ih e in
         record { before = r ∷ more.before; after = more.after; stands = ap (λ (l : List Entry). r ∷ l) more.stands; none_before = (none_said s r f, more.none_before) }
 
-first_at : (s d : List ℕ) (front back : List Entry) → All (SilentOn s) front → first_digest s (front ++ Known s d ∷ back) ≡ Some d
+first_at : (s d : List ℕ) (front back : List Entry) → AllByRecursion (SilentOn s) front → first_digest s (front ++ Known s d ∷ back) ≡ Some d
 first_at s d [] back h = ap (λ (o : Option (List ℕ)). option_or o (first_digest s back)) (known_said s d)
 first_at s d (r ∷ front) back h =
     ap (λ (o : Option (List ℕ)). option_or o (first_digest s (front ++ Known s d ∷ back))) (said_none s r h.0) ∙ first_at s d front back h.1
@@ -68,22 +68,22 @@ digest_is_the_first book s d = (
   λ f. ap (first_digest s) f.stands ∙ first_at s d f.before f.after f.none_before,
 )
 
-silent_all : (s : List ℕ) (rs : List Entry) → first_digest s rs ≡ None → All (SilentOn s) rs
+silent_all : (s : List ℕ) (rs : List Entry) → first_digest s rs ≡ None → AllByRecursion (SilentOn s) rs
 silent_all s [] e = tt
 silent_all s (r ∷ rs) e = by (silent_all s rs) (digest_said s r) refl e
   where
-    by : (first_digest s rs ≡ None → All (SilentOn s) rs) → (o : Option (List ℕ)) → digest_said s r ≡ o → option_or o (first_digest s rs) ≡ None → All (SilentOn s) (r ∷ rs)
+    by : (first_digest s rs ≡ None → AllByRecursion (SilentOn s) rs) → (o : Option (List ℕ)) → digest_said s r ≡ o → option_or o (first_digest s rs) ≡ None → AllByRecursion (SilentOn s) (r ∷ rs)
     by ih (Some x) f e = absurd (none_some (sym e))
     by ih None f e = (none_said s r f, ih e)
 
-all_silent : (s : List ℕ) (rs : List Entry) → All (SilentOn s) rs → first_digest s rs ≡ None
+all_silent : (s : List ℕ) (rs : List Entry) → AllByRecursion (SilentOn s) rs → first_digest s rs ≡ None
 all_silent s [] h = refl
 all_silent s (r ∷ rs) h = ap (λ (o : Option (List ℕ)). option_or o (first_digest s rs)) (said_none s r h.0) ∙ all_silent s rs h.1
 
 pub unknown_is_no_record : UnknownIsNoRecord
 unknown_is_no_record book s = (silent_all s (records book), all_silent s (records book))
 
-no_yes : (rs : List Entry) → All NoVerdict rs → (k m g : List ℕ) → some_verdict k m g rs ≡ false
+no_yes : (rs : List Entry) → AllByRecursion NoVerdict rs → (k m g : List ℕ) → some_verdict k m g rs ≡ false
 no_yes [] h k m g = refl
 no_yes (Known o d ∷ rs) h k m g = no_yes rs h.1 k m g
 no_yes (Signed a b c ∷ rs) h k m g = absurd h.0
@@ -92,7 +92,7 @@ pub no_verdict_no_yes : NoVerdictRecordNoYes
 no_verdict_no_yes book h k m g = no_yes (records book) h k m g
 
 -- a record of kind 59 has a yes
-no_record : (rs : List Entry) → ((k m g : List ℕ) → some_verdict k m g rs ≡ false) → All NoVerdict rs
+no_record : (rs : List Entry) → ((k m g : List ℕ) → some_verdict k m g rs ≡ false) → AllByRecursion NoVerdict rs
 no_record [] h = tt
 no_record (Known o d ∷ rs) h = (tt, no_record rs h)
 no_record (Signed k m g ∷ rs) h =

@@ -1,6 +1,6 @@
 -- What is promised of a verdict book's answers. Assumes nothing.
 use Rattle.std.specs.Prelude.{◌≡◌, ℕ, true, List, ◌∷◌, ◌++◌, Some, None, Decides, ◌≢◌}
-use Rattle.std.specs.List.{ContainsAt as Has, AllByRecursion as All}
+use Rattle.std.specs.List.{ContainsAt as Has, AllByRecursion}
 use Rattle.oracle.specs.Meaning.{Verdicts, AlwaysNo, SameVerdicts}
 use Rattle.record.specs.Format.{Entry, Known, Signed, records}
 use Rattle.book.specs.Meaning.{book_digest, book_verdict}
@@ -20,7 +20,7 @@ pub record FirstOf (rs : List Entry) (s d : List ℕ) : Type 0 where
   pub before : List Entry
   pub after : List Entry
   pub stands : rs ≡ before ++ Known s d ∷ after
-  pub none_before : All (SilentOn s) before
+  pub none_before : AllByRecursion (SilentOn s) before
 
 -- a known digest is that of the first record with these octets
 abbrev pub DigestIsTheFirst : Type 0
@@ -32,7 +32,7 @@ DigestIsTheFirst =
 abbrev pub UnknownIsNoRecord : Type 0
 UnknownIsNoRecord =
     (book s : List ℕ)
-    → (book_digest book s ≡ None → All (SilentOn s) (records book)) × (All (SilentOn s) (records book) → book_digest book s ≡ None)
+    → (book_digest book s ≡ None → AllByRecursion (SilentOn s) (records book)) × (AllByRecursion (SilentOn s) (records book) → book_digest book s ≡ None)
 
 -- the record is not of kind 59
 abbrev pub NoVerdict : Entry → Type 0
@@ -41,12 +41,12 @@ NoVerdict (Signed key message signature) = ⊥
 
 -- a book with no whole record of kind 59 says yes to nothing
 abbrev pub NoVerdictRecordNoYes : Type 0
-NoVerdictRecordNoYes = (book : List ℕ) → All NoVerdict (records book) → AlwaysNo (book_verdict book)
+NoVerdictRecordNoYes = (book : List ℕ) → AllByRecursion NoVerdict (records book) → AlwaysNo (book_verdict book)
 
 -- whoever always says no does not answer by a book with a whole record of kind 59
 abbrev pub AlwaysNoIsNoBookWithAVerdict : Type 0
 AlwaysNoIsNoBookWithAVerdict =
-    (v : Verdicts) (book : List ℕ) → AlwaysNo v → SameVerdicts v (book_verdict book) → All NoVerdict (records book)
+    (v : Verdicts) (book : List ℕ) → AlwaysNo v → SameVerdicts v (book_verdict book) → AllByRecursion NoVerdict (records book)
 
 -- books with the same whole records answer every question alike
 abbrev pub AnswersDependOnRecordsOnly : Type 0

@@ -1,6 +1,6 @@
 -- Octets and digits, either way: the laws that the contracts state, and the steps of the loops. Assumes nothing.
 use Rattle.std.proofs.Common.{◌≡◌, ℕ, suc, ◌+◌, ◌-◌, ◌*◌, ◌/◌, ◌%◌, ◌<◌, ◌≤◌, Bool, true, false, ◌&&◌, eqb, List, [], ◌∷◌, ◌++◌, map, length, get_or, take, drop, is_some, Some, None, Option, sym, refl, ap, ◌∙◌, arith}
-use Rattle.std.specs.List.{AllByRecursion as All}
+use Rattle.std.specs.List.{AllByRecursion}
 use Rattle.std.specs.Char.{to_ascii_lowercase}
 use Rattle.std.proofs.lemmas.Bool.Decides.{nat_tests}
 use Rattle.std.proofs.lemmas.List.{append_assoc, append-nil, take_rest, drop_more, drop_all, at_drop_more}
@@ -50,7 +50,7 @@ before_inv (Some y) None xs e = let z : ◌≡◌ {A = ℕ} 0 1 = cc in absurd (
 before_inv (Some y) (Some ys) xs e = (y, ys, refl, refl, cc)
 
 abbrev Back : List ℕ → List ℕ → Type 0
-Back s xs = (length s ≡ 2 * length xs) × All (λ x. x < 256) xs × (hex_text xs ≡ map to_ascii_lowercase s)
+Back s xs = (length s ≡ 2 * length xs) × AllByRecursion (λ x. x < 256) xs × (hex_text xs ≡ map to_ascii_lowercase s)
 
 -- two more digits
 back_more : (h l y : ℕ) (s ys : List ℕ) → octet_of h l ≡ Some y → Back s ys → Back (h ∷ (l ∷ s)) (y ∷ ys)

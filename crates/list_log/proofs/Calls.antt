@@ -1,6 +1,6 @@
 -- A line says a call exactly where it is that call's text. Assumes nothing.
 use Rattle.std.proofs.Common.{◌≡◌, ℕ, ◌+◌, ◌<◌, Bool, true, false, cond, not, ◌&&◌, eqb, ◌⊎◌, List, [], ◌∷◌, ◌++◌, length, get_or, drop, Some, None, Ok, Err, codes, Option, Result, sym, refl, ap, ◌∙◌, subst, inl, inr, append_assoc, arith}
-use Rattle.std.specs.List.{AllByRecursion as All}
+use Rattle.std.specs.List.{AllByRecursion}
 use Rattle.std.proofs.lemmas.List.{append-nil, at_drop_more}
 use Rattle.std.proofs.lemmas.Bool.{cases_Bool, eq-eqb, ne_eqb, not-true, not-false}
 use Rattle.pieces.specs.Marks.{lacking}
@@ -148,7 +148,7 @@ whole_written (read f a) h =
     ap (λ (r : Result (Form × WordsLeft) Why). with_end (and_then r (λ q. and_then (argument_of q.1) (λ y. Ok (read q.0 y.0, y.1))))) (form_written f (written a ∷ []))
     ∙ ap (λ (r : Result (Said × WordsLeft) Why). with_end (and_then r (λ y. Ok (read f y.0, y.1)))) (argument_written a [] h)
 
-words_call : (c : Asked) → All (λ w. lacking 32 w ≡ true) (call_words c) → words_of (spaced (call_words c)) ≡ call_words c
+words_call : (c : Asked) → AllByRecursion (λ w. lacking 32 w ≡ true) (call_words c) → words_of (spaced (call_words c)) ≡ call_words c
 words_call (element a) h = pieces_joined 32 (codes "element") (written a ∷ []) h
 words_call (digest o a) h = pieces_joined 32 (codes "digest") (source_words o ++ (written a ∷ [])) h
 words_call (verdict o k m g) h = pieces_joined 32 (codes "verdict") (source_words o ++ (written k ∷ (written m ∷ (written g ∷ [])))) h
@@ -196,7 +196,7 @@ line_inv s c h =
     record {
       text = sym (joined_pieces 32 s) ∙ ap spaced p.0;
       lawful = p.1;
-      no_space = subst (λ (l : WordsLeft). All (λ w. lacking 32 w ≡ true) l) p.0 (markless_pieces 32 s);
+      no_space = subst (λ (l : WordsLeft). AllByRecursion (λ w. lacking 32 w ≡ true) l) p.0 (markless_pieces 32 s);
       no_return = b.0;
     }
 

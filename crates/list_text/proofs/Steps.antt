@@ -1,6 +1,6 @@
 -- The steps of the loops over the words of a list. Assumes nothing.
 use Rattle.std.proofs.Common.{◌≡◌, ℕ, ◌+◌, ◌-◌, ◌<◌, ◌≤◌, Bool, true, false, cond, List, [], ◌∷◌, ◌++◌, length, get_or, take, drop, is_some, Some, None, codes, Option, sym, refl, ap, ◌∙◌, subst, append_assoc, arith}
-use Rattle.std.specs.List.{AllByRecursion as All}
+use Rattle.std.specs.List.{AllByRecursion}
 use Rattle.std.specs.Str.{bytes_eq}
 use Rattle.std.proofs.lemmas.List.{append-nil, drop_more, drop_all, take_more, take_all, take_rest}
 use Rattle.std.proofs.ByRecursion.{All-push}
@@ -93,7 +93,7 @@ module _ {P : Type 0} (proper : P → Type 0) where
   pub fit_more : (rs : List (Range P)) (i : ℕ) (d : Range P) → i < length rs → d ≡ get_or rs i d → proper d.first × proper d.last → Fit proper (take i rs) → Fit proper (take (i + 1) rs)
   fit_more rs i d l e h f =
       let good : Range P → Type 0 = λ r. proper r.first × proper r.last in
-      subst (λ (ys : List (Range P)). All good ys) (sym (take_more rs i d l ∙ ap (λ (r : Range P). take i rs ++ (r ∷ [])) (sym e))) (All-push good (take i rs) d f h)
+      subst (λ (ys : List (Range P)). AllByRecursion good ys) (sym (take_more rs i d l ∙ ap (λ (r : Range P). take i rs ++ (r ∷ [])) (sym e))) (All-push good (take i rs) d f h)
 
   pub fit_all : (rs : List (Range P)) (i : ℕ) → length rs ≤ i → Fit proper (take i rs) → Fit proper rs
   fit_all rs i l f = subst (λ (ys : List (Range P)). Fit proper ys) (take_all i rs l) f

@@ -1,6 +1,6 @@
 -- A word is read as a list exactly where it is the list's text, and a text is read as its list. Assumes nothing.
 use Rattle.std.proofs.Common.{◌≡◌, ℕ, Bool, true, false, cond, ◌⊎◌, List, [], ◌∷◌, ◌++◌, map, Some, None, codes, Option, sym, refl, ap, ◌∙◌, subst, inl, inr, arith}
-use Rattle.std.specs.List.{AllByRecursion as All}
+use Rattle.std.specs.List.{AllByRecursion}
 use Rattle.std.specs.Str.{bytes_eq}
 use Rattle.std.proofs.lemmas.Slice.Eq.{bytes_eq-Decides}
 use Rattle.std.proofs.lemmas.List.{append-nil}
@@ -102,7 +102,7 @@ module _ {P : Type 0} (reads : List ℕ → Option P) (text : P → List ℕ) (f
       let j = words_inv ws t.1 t.3 in
       subst (λ (k : List (Range P)). Fit proper k × RangeWords text folded (w ∷ ws) k) t.4 ((i.0, j.0), (i.1, j.1))
 
-  words_read : (ws : Words) (l : List (Range P)) → Fit proper l → RangeWords text folded ws l → (all_ranges reads ws ≡ Some l) × All (λ w. lacking 44 w ≡ true) ws
+  words_read : (ws : Words) (l : List (Range P)) → Fit proper l → RangeWords text folded ws l → (all_ranges reads ws ≡ Some l) × AllByRecursion (λ w. lacking 44 w ≡ true) ws
   words_read [] [] f g = (refl, tt)
   words_read [] (r ∷ rs) f g = absurd g
   words_read (w ∷ ws) [] f g = absurd g

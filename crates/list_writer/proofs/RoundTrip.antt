@@ -1,6 +1,6 @@
 -- Reading what was written, and writing what was read. Assumes nothing.
 use Rattle.std.proofs.Common.{◌≡◌, ℕ, zero, suc, ◌+◌, ◌*◌, ◌<◌, ◌≤◌, true, cond, eqb, List, [], ◌∷◌, ◌++◌, length, Some, None, Ok, Err, Option, Result, sym, refl, ap, ◌∙◌, subst, inl, inr, append-nil, arith, length-append}
-use Rattle.std.specs.List.{AllByRecursion as All, flat_map}
+use Rattle.std.specs.List.{AllByRecursion, flat_map}
 use Rattle.std.proofs.lemmas.List.{nil_from_length}
 use Rattle.std.proofs.lemmas.Bool.{lt-ltb, ltb-true, ne_eqb, eq-eqb, cases_eq, cond-true, cond-false}
 use Rattle.fault.specs.declared.Report.{Report}
@@ -28,7 +28,7 @@ module _ {P : Type 0} (rank : P → ℕ) (fits : P → Type 0) (entry : Seen →
   Next before [] = Unit {0}
   Next before (r ∷ rs) = is_apart rank before r ≡ true
 
-  next_of : (r : Range P) (rs : List (Range P)) → All (λ s. rank r.last + 1 < rank s.first) rs → Next (Some r) rs
+  next_of : (r : Range P) (rs : List (Range P)) → AllByRecursion (λ s. rank r.last + 1 < rank s.first) rs → Next (Some r) rs
   next_of r [] a = tt
   next_of r (s ∷ rs) a = lt-ltb _ _ a.0
 
@@ -142,7 +142,7 @@ module _ {P : Type 0} (rank : P → ℕ) (fits : P → Type 0) (entry : Seen →
   was_none room before s rs e f =
       subst (Was s room before) f (record { octets = e; few = omega arith; next = tt; order = tt; fit = tt })
 
-  gap : (r : Range P) (rs : List (Range P)) → Next (Some r) rs → Ascending rank rs → All (λ s. rank r.last + 1 < rank s.first) rs
+  gap : (r : Range P) (rs : List (Range P)) → Next (Some r) rs → Ascending rank rs → AllByRecursion (λ s. rank r.last + 1 < rank s.first) rs
   gap r [] n a = tt
   gap r (s ∷ ss) n a = past_all rank (rank r.last + 1) s ss (ltb-true _ _ n) a
 

@@ -1,6 +1,6 @@
 -- An address is read back from its text. Assumes nothing.
 use Rattle.std.proofs.Common.{◌≡◌, ℕ, zero, suc, ◌+◌, ◌-◌, ◌*◌, ◌/◌, ◌%◌, ◌^◌, ◌<◌, ◌≤◌, List, [], ◌∷◌, ◌++◌, decimal, sym, refl, ap, ◌∙◌, subst, ap₂, ⊎_elim, arith}
-use Rattle.std.specs.List.{AllByRecursion as All}
+use Rattle.std.specs.List.{AllByRecursion}
 use lib.Pow.{split}
 use Rattle.std.proofs.lemmas.Nat.{shr-shr, mod-pow-add}
 use Rattle.std.proofs.lemmas.Fmt.{decimal_by_steps, decimal_injective}
@@ -18,7 +18,7 @@ tail_same : (x y : ℕ) (s t : List ℕ) → x ∷ s ≡ y ∷ t → (x ≡ y) �
 tail_same x y s t e = (cc, cc)
 
 -- two runs, each with another character after it
-pub cut : (s t u v : List ℕ) (c d : ℕ) → All InRun s → All InRun t → (InRun c → ⊥) → (InRun d → ⊥) → s ++ (c ∷ u) ≡ t ++ (d ∷ v) → (s ≡ t) × (c ≡ d) × (u ≡ v)
+pub cut : (s t u v : List ℕ) (c d : ℕ) → AllByRecursion InRun s → AllByRecursion InRun t → (InRun c → ⊥) → (InRun d → ⊥) → s ++ (c ∷ u) ≡ t ++ (d ∷ v) → (s ≡ t) × (c ≡ d) × (u ≡ v)
 cut [] [] u v c d a b m n e = let h = tail_same c d u v e in (refl, h.0, h.1)
 cut [] (y ∷ t) u v c d a b m n e = let h = tail_same c y u (t ++ (d ∷ v)) e in absurd (m (let P : ℕ → Type 0 = InRun in subst P (sym h.0) b.0))
 cut (x ∷ s) [] u v c d a b m n e = let h = tail_same x d (s ++ (c ∷ u)) v e in absurd (n (let P : ℕ → Type 0 = InRun in subst P h.0 a.0))
@@ -27,9 +27,9 @@ cut (x ∷ s) (y ∷ t) u v c d a b m n e =
     let r = cut s t u v c d a.1 b.1 m n h.1 in
     (ap₂ (λ (z : ℕ) (l : List ℕ). z ∷ l) h.0 r.0, r.1, r.2)
 
-decimal_run : (n : ℕ) → n < 2 ^ 64 → All InRun (decimal n)
+decimal_run : (n : ℕ) → n < 2 ^ 64 → AllByRecursion InRun (decimal n)
 decimal_run n l =
-    decimal_by_steps (λ _ ds. All InRun ds)
+    decimal_by_steps (λ _ ds. AllByRecursion InRun ds)
     (λ m k. ((omega arith, λ e. omega arith), tt))
     (λ m ds k h. All-append InRun ds ((48 + m % 10) ∷ []) h ((omega arith, λ e. omega arith), tt))
     n l
@@ -103,7 +103,7 @@ hex_run n l = grind (arith, nat_tests)
 hex_same : (m n : ℕ) → m < 16 → n < 16 → hex_digit m ≡ hex_digit n → m ≡ n
 hex_same m n l k e = grind (arith, nat_tests)
 
-group_run : (g : ℕ) → g < 65536 → All InRun (group_text g)
+group_run : (g : ℕ) → g < 65536 → AllByRecursion InRun (group_text g)
 unfolding group_text
 group_run g l = (hex_run (g / 4096) (omega arith), (hex_run (g / 256 % 16) (omega arith), (hex_run (g / 16 % 16) (omega arith), (hex_run (g % 16) (omega arith), tt))))
 

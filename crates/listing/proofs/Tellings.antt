@@ -1,6 +1,6 @@
 -- A list is read back from its text. Assumes nothing.
 use Rattle.std.proofs.Common.{◌≡◌, ℕ, ◌-◌, ◌%◌, ◌^◌, ◌<◌, ◌≤◌, eqb, leb, List, [], ◌∷◌, ◌++◌, length, codes, decimal, sym, refl, ap, ◌∙◌, ap₂, arith}
-use Rattle.std.specs.List.{AllByRecursion as All}
+use Rattle.std.specs.List.{AllByRecursion}
 use Rattle.std.proofs.lemmas.List.{append_assoc, append_cancel_left}
 use Rattle.std.proofs.lemmas.Bool.{and_parts, leb-true, eqb-true}
 use Rattle.payload.specs.declared.Family.{Family}
@@ -89,7 +89,7 @@ line_cut p q u v lp lq e =
 pub line_some : (p : Payload) (u : List ℕ) → line_text p ++ u ≡ [] → ⊥
 line_some p u e = let f : opened p u ≡ [] = sym (line_opens p u) ∙ e in let n : length (opened p u) ≡ 0 = ap length f in omega arith
 
-lines_tell : (xs ys : List Payload) → All Lawful xs → All Lawful ys → lines_text xs ≡ lines_text ys → xs ≡ ys
+lines_tell : (xs ys : List Payload) → AllByRecursion Lawful xs → AllByRecursion Lawful ys → lines_text xs ≡ lines_text ys → xs ≡ ys
 lines_tell [] [] a b e = refl
 lines_tell [] (y ∷ ys) a b e = absurd (line_some y (lines_text ys) (sym e))
 lines_tell (x ∷ xs) [] a b e = absurd (line_some x (lines_text xs) e)

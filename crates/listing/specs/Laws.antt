@@ -1,6 +1,6 @@
 -- A text is the text of one list. Assumes nothing.
 use Rattle.std.specs.Prelude.{◌≡◌, ◌^◌, ◌<◌, true, List, length}
-use Rattle.std.specs.List.{AllByRecursion as All}
+use Rattle.std.specs.List.{AllByRecursion}
 use Rattle.payload.specs.declared.Payload.{Payload}
 use Rattle.payload.specs.Order.{lawful}
 use Rattle.payload.specs.Laws.{Sized}
@@ -13,5 +13,5 @@ Lawful p = (lawful p.prefix ≡ true) × Sized p
 -- lists of lawful payloads that have one text are one list
 abbrev pub TextTells : Type 0
 TextTells =
-    (xs ys : List Payload) → All Lawful xs → All Lawful ys → length xs < 2 ^ 64 → length ys < 2 ^ 64
+    (xs ys : List Payload) → AllByRecursion Lawful xs → AllByRecursion Lawful ys → length xs < 2 ^ 64 → length ys < 2 ^ 64
     → list_text xs ≡ list_text ys → xs ≡ ys

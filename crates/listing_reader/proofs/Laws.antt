@@ -1,6 +1,6 @@
 -- What a text that is read, and one that is not, is. Assumes nothing.
 use Rattle.std.proofs.Common.{◌≡◌, ℕ, zero, suc, ◌+◌, ◌<◌, Bool, true, false, cond, eqb, ltb, ◌⊎◌, List, [], ◌∷◌, ◌++◌, length, get_or, Some, None, Ok, Err, Option, Result, sym, refl, ap, ◌∙◌, subst, inl, inr, arith}
-use Rattle.std.specs.List.{AllByRecursion as All}
+use Rattle.std.specs.List.{AllByRecursion}
 use Rattle.std.proofs.lemmas.List.{append_assoc, append-nil, length-append, nil_from_length, get_or_append_left, get_or_at}
 use Rattle.std.proofs.lemmas.Bool.{eqb-true, eqb-false, ltb-true, le-ltb}
 use Rattle.payload.specs.declared.Payload.{Payload}
@@ -34,7 +34,7 @@ follows ps (q ∷ qs) r =
     (after_from ps q before, follows (ps ++ q ∷ []) qs (subst (λ (l : List Payload). Rising l) (sym (append_assoc ps (q ∷ []) qs)) r))
 
 -- the lines of good payloads are read as these
-lines_read : (ps qs : List Payload) → All Good qs → Follow ps qs → lines_of (length qs) ps (lines_text qs) ≡ (ps ++ qs, Ok tt)
+lines_read : (ps qs : List Payload) → AllByRecursion Good qs → Follow ps qs → lines_of (length qs) ps (lines_text qs) ≡ (ps ++ qs, Ok tt)
 unfolding lines_of
 lines_read ps [] g f = ap (λ (l : List Payload). (l, Ok tt)) (sym (append-nil ps))
 lines_read ps (q ∷ qs) g f =
@@ -58,7 +58,7 @@ record Cut (n : ℕ) (before : List Payload) (s : List ℕ) (r : Reading) : Type
   left : List ℕ
   read : r.0 ≡ before ++ more
   text : s ≡ lines_text more ++ left
-  good : All Whole more
+  good : AllByRecursion Whole more
   rising : Rising r.0
   ends : Ends n more r.0 left r.1
 
@@ -131,7 +131,7 @@ room_tells false room s h e f =
     let c : Cut h.0 [] h.1 (lines_of h.0 [] h.1) = lines_cut h.0 [] h.1 rising_empty in
     record {
       rising = c.rising;
-      whole = subst (λ (l : List Payload). All Whole l) (sym c.read) c.good;
+      whole = subst (λ (l : List Payload). AllByRecursion Whole l) (sym c.read) c.good;
       told =
           whole_told room h.0 s (lines_of h.0 [] h.1).0 c.more c.left (lines_of h.0 [] h.1).1
           (head_inv s h e ∙ ap (λ (t : List ℕ). head_text h.0 ++ t) c.text) c.read c.ends;

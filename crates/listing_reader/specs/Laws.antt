@@ -1,6 +1,6 @@
 -- What a text that is read, and one that is not, is. Assumes nothing.
 use Rattle.std.specs.Prelude.{◌≡◌, ℕ, ◌+◌, ◌^◌, ◌<◌, ◌≤◌, true, ◌⊎◌, List, [], ◌++◌, length, Ok, Err, Result, ◌≢◌}
-use Rattle.std.specs.List.{AllByRecursion as All}
+use Rattle.std.specs.List.{AllByRecursion}
 use Rattle.payload.specs.declared.Payload.{Payload}
 use Rattle.payload.specs.Order.{lawful, Rising}
 use Rattle.listing.specs.Laws.{Lawful}
@@ -15,7 +15,7 @@ Good p = Lawful p × (fits_max p ≡ true)
 -- the text of a list of good payloads is read as that list
 abbrev pub ReadsBack : Type 0
 ReadsBack =
-    (room : ℕ) (ps : List Payload) → All Good ps → Rising ps → length ps ≤ room → length ps < 2 ^ 40 → list_of room (list_text ps) ≡ (ps, Ok tt)
+    (room : ℕ) (ps : List Payload) → AllByRecursion Good ps → Rising ps → length ps ≤ room → length ps < 2 ^ 40 → list_of room (list_text ps) ≡ (ps, Ok tt)
 
 -- a payload of a lawful prefix and a lawful maximum
 abbrev pub Whole : Payload → Type 0
@@ -49,7 +49,7 @@ Told room s ps (Err bad) = ((bad.line ≡ 1) × (ps ≡ []) × NoHead room s) �
 -- what was read is in order, its payloads are lawful, and the text tells it
 pub record Tells (room : ℕ) (s : List ℕ) (ps : List Payload) (r : Result (Unit {0}) BadLine) : Type 0 where
   pub rising : Rising ps
-  pub whole : All Whole ps
+  pub whole : AllByRecursion Whole ps
   pub told : Told room s ps r
 
 abbrev pub ReadsOnly : Type 0

@@ -1,6 +1,6 @@
 -- A line says a call exactly where it is that call's text. Assumes nothing.
 use Rattle.std.proofs.Common.{◌≡◌, ℕ, ◌%◌, ◌<◌, Bool, true, false, cond, not, ◌&&◌, eqb, List, [], ◌∷◌, ◌++◌, length, is_some, Some, None, Ok, Err, codes, Option, Result, sym, refl, ap, ◌∙◌, subst, inl, inr, append_assoc, arith}
-use Rattle.std.specs.List.{AllByRecursion as All}
+use Rattle.std.specs.List.{AllByRecursion}
 use Rattle.std.specs.Str.{bytes_eq}
 use Rattle.std.proofs.lemmas.Bool.{cases_Bool, eqb-false, ne_eqb, and_parts, not-true, not-false}
 use Rattle.std.proofs.lemmas.Slice.Eq.{bytes_eq-Decides}
@@ -233,7 +233,7 @@ whole_written (verdict o k m g) h =
     (argument_written m (written g ∷ []) h.2)
     ∙ ap (λ (r : Result (Said × WordsLeft) Why). with_end (and_then r (λ z. Ok (verdict o k m z.0, z.1)))) (argument_written g [] h.3)
 
-words_call : (c : Asked) → All (λ w. lacking 32 w ≡ true) (call_words c) → words_of (spaced (call_words c)) ≡ call_words c
+words_call : (c : Asked) → AllByRecursion (λ w. lacking 32 w ≡ true) (call_words c) → words_of (spaced (call_words c)) ≡ call_words c
 words_call (element a) h = words_spaced (codes "element") (written a ∷ []) h
 words_call (digest o a) h = words_spaced (codes "digest") (source_words o ++ (written a ∷ [])) h
 words_call (verdict o k m g) h = words_spaced (codes "verdict") (source_words o ++ (written k ∷ (written m ∷ (written g ∷ [])))) h
@@ -275,7 +275,7 @@ line_inv s c h =
     record {
       text = sym (spaced_words s) ∙ ap spaced p.0;
       lawful = p.1;
-      no_space = subst (λ (l : WordsLeft). All (λ w. lacking 32 w ≡ true) l) p.0 (spaceless_words s);
+      no_space = subst (λ (l : WordsLeft). AllByRecursion (λ w. lacking 32 w ≡ true) l) p.0 (spaceless_words s);
       no_return = b.0;
     }
 

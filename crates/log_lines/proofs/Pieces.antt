@@ -1,7 +1,7 @@
 -- The words of a line, and prefixes. Assumes nothing.
 use Rattle.std.proofs.Common.{◌≡◌, ℕ, zero, suc, ◌+◌, ◌-◌, ◌<◌, ◌≤◌, Bool, true, false, cond, not, ◌&&◌, eqb, List, [], ◌∷◌, ◌++◌, length, get_or, take, drop, Some, None, Ok, Err, Option, sym, refl, ap, ◌∙◌, subst, inl, inr, arith, Bor, MatchOption}
 use Rattle.std.specs.Option.{option_map}
-use Rattle.std.specs.List.{AllByRecursion as All}
+use Rattle.std.specs.List.{AllByRecursion}
 use Rattle.std.proofs.lemmas.List.{at_drop_more, at_drop_all, drop_more, drop_all, take_rest}
 use Rattle.std.proofs.lemmas.Bool.{cases_Bool, eqb-true, eq-eqb, ne_eqb}
 use Rattle.log_lines.specs.declared.Why.TheVariants.{EmptyWord, ExtraWord}
@@ -46,7 +46,7 @@ spaced_words (c ∷ s) = elim (cases_Bool (eqb c 32)) [
 
 -- no word holds a space
 abbrev Spaceless : List (List ℕ) → Type 0
-Spaceless ws = All (λ w. lacking 32 w ≡ true) ws
+Spaceless ws = AllByRecursion (λ w. lacking 32 w ≡ true) ws
 
 lacking_more : (c x : ℕ) (s : List ℕ) → eqb x c ≡ false → lacking c s ≡ true → lacking c (x ∷ s) ≡ true
 lacking_more c x s e h = ap (λ (b : Bool). not b && lacking c s) e ∙ h

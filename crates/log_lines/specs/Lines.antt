@@ -1,6 +1,6 @@
 -- What a line of a log says: nothing, or a call with its arguments. Assumes nothing.
 use Rattle.std.specs.Prelude.{◌≡◌, ℕ, ◌%◌, ◌<◌, Bool, true, cond, List, [], ◌∷◌, ◌++◌, length, is_some, Some, None, Ok, Err, codes, Option, Result, ◌==◌}
-use Rattle.std.specs.List.{AllByRecursion as All}
+use Rattle.std.specs.List.{AllByRecursion}
 use Rattle.std.specs.Str.{bytes_eq}
 use Rattle.hex_text.specs.Digits.{unhex, all_digits}
 use Rattle.log_lines.specs.declared.Why.{Why}
@@ -166,7 +166,7 @@ call_words (verdict o k m g) = codes "verdict" ∷ (source_words o ++ (written k
 pub record CallLine (s : List ℕ) (c : Asked) : Type 0 where
   pub text : s ≡ spaced (call_words c)
   pub lawful : LawfulCall c
-  pub no_space : All (λ w. lacking 32 w ≡ true) (call_words c)
+  pub no_space : AllByRecursion (λ w. lacking 32 w ≡ true) (call_words c)
   pub no_return : lacking 13 s ≡ true
 
 -- the answer is a call exactly where the line is that call's text

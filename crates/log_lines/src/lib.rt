@@ -12,7 +12,7 @@
 
 ghost use Rattle.std.specs.Prelude.{◌≡◌, ◌≤◌, true, not, length, IfOk};
 ghost use Rattle.std.specs.Option.{option_map};
-ghost use Rattle.std.specs.List.{AllByRecursion as All};
+ghost use Rattle.std.specs.List.{AllByRecursion};
 ghost use Rattle.std.specs.Str.{bytes_eq};
 ghost use Rattle.log_lines.specs.Words.{words_of, spaced, lacking, word_end, words_past, take_word};
 ghost use Rattle.log_lines.specs.Lines.{stripped, digits_of, path_of, octets_of, argument_of, oracle_of, verdict_of, name_of, call_of, ended, whole_of, silent, line_of, Lawful, LawfulSource, LawfulCall, LawfulLine, ReadsCalls, ReadsElements};
@@ -99,7 +99,7 @@ impl<'a> Words<'a> {
     pub fn of(line: &'a [u8]) -> Words<'a>
         ensures value { left result ≡ words_of line.now }
         ensures joined { spaced (words_of line.now) ≡ line.now }
-        ensures spaceless { All (λ w. lacking 32 w ≡ true) (words_of line.now) }
+        ensures spaceless { AllByRecursion (λ w. lacking 32 w ≡ true) (words_of line.now) }
     {
         Words { rest: Some(line) }
     }

@@ -1,7 +1,7 @@
 -- That the tests on bare names, endings and manifests' names tell what the relations say. Assumes nothing.
 use Rattle.std.proofs.Common.{◌≡◌, ℕ, ◌+◌, ◌-◌, ◌<◌, ◌≤◌, Bool, true, false, cond, List, ◌∷◌, ◌++◌, length, get_or, take, drop, Some, None, Decides, Option, sym, refl, ap, ◌∙◌, subst, ⊎_elim, arith, length-append, length-drop, take-append-drop, MatchOption}
 use lib.Seq.{take-append_seam, drop-append_seam, drop-append-add, get_or-append_seam}
-use Rattle.std.specs.List.{AllByRecursion as All}
+use Rattle.std.specs.List.{AllByRecursion}
 use Rattle.std.specs.Str.{bytes_eq}
 use Rattle.std.proofs.lemmas.List.{drop_more, get_or_append_left, get_or-append_right, get_or-take, length-take-le}
 use Rattle.std.proofs.ByRecursion.{All-get_or, All-append, All-weaker}
@@ -17,7 +17,7 @@ use Rattle.names.proofs.Folders.{size_end, one_end}
 use Rattle.names.proofs.Tested.{all_of, decides_leb, name_decides, name_parts}
 
 abbrev Parts : List ℕ → ℕ → Type 0
-Parts s n = (5 ≤ length s) × (All (Of Stem) (take n s) × ((get_or s n 0 ≡ 46) × All (Of Lower) (drop (n + 1) s)))
+Parts s n = (5 ≤ length s) × (AllByRecursion (Of Stem) (take n s) × ((get_or s n 0 ≡ 46) × AllByRecursion (Of Lower) (drop (n + 1) s)))
 
 parts_decide : (s : List ℕ) → Decides (is_bare s) (Parts s (length s - 4))
 parts_decide s =
@@ -39,13 +39,13 @@ bare_from s n is p =
       lower = p.1.1.1;
     }
 
-parts_of : (stem end : List ℕ) → 1 ≤ length stem → length end ≡ 3 → All (Of Stem) stem → All (Of Lower) end → (n : ℕ) → n ≡ length stem
+parts_of : (stem end : List ℕ) → 1 ≤ length stem → length end ≡ 3 → AllByRecursion (Of Stem) stem → AllByRecursion (Of Lower) end → (n : ℕ) → n ≡ length stem
     → Parts (stem ++ (46 ∷ end)) n
 parts_of stem end some three a b n is =
     let t : take n (stem ++ (46 ∷ end)) ≡ stem = ap (λ (k : ℕ). take k (stem ++ (46 ∷ end))) is ∙ take-append_seam stem (46 ∷ end) in
     let d : drop (n + 1) (stem ++ (46 ∷ end)) ≡ end = ap (λ (k : ℕ). drop (k + 1) (stem ++ (46 ∷ end))) is ∙ drop-append-add stem (46 ∷ end) 1 in
     let g : get_or (stem ++ (46 ∷ end)) n 0 ≡ 46 = ap (λ (k : ℕ). get_or (stem ++ (46 ∷ end)) k 0) is ∙ get_or-append_seam stem 46 end 0 in
-    (simp length-append (omega arith), (subst (All (Of Stem)) (sym t) a, (g, subst (All (Of Lower)) (sym d) b)))
+    (simp length-append (omega arith), (subst (AllByRecursion (Of Stem)) (sym t) a, (g, subst (AllByRecursion (Of Lower)) (sym d) b)))
 
 pub bare_decides : (s : List ℕ) → Decides (is_bare s) (Bare s)
 bare_decides s =
@@ -64,9 +64,9 @@ stem_no_slash c p e =
 lower_no_slash : (c : ℕ) → Of Lower c → c ≡ 47 → ⊥
 lower_no_slash c p e = omega arith
 
-no_slash : (b : List ℕ) → Bare b → All (λ c. c ≡ 47 → ⊥) b
+no_slash : (b : List ℕ) → Bare b → AllByRecursion (λ c. c ≡ 47 → ⊥) b
 no_slash b p =
-    subst (All (λ c. c ≡ 47 → ⊥)) (sym p.whole)
+    subst (AllByRecursion (λ c. c ≡ 47 → ⊥)) (sym p.whole)
     (All-append (λ c. c ≡ 47 → ⊥) p.stem (46 ∷ p.end) (All-weaker (Of Stem) (λ c. c ≡ 47 → ⊥) stem_no_slash p.stem p.letters)
     (λ e. omega arith, All-weaker (Of Lower) (λ c. c ≡ 47 → ⊥) lower_no_slash p.end p.lower))
 

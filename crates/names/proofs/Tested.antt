@@ -1,6 +1,6 @@
 -- That the tests on names tell what the relations say. Assumes nothing.
 use Rattle.std.proofs.Common.{◌≡◌, ℕ, ◌+◌, ◌-◌, ◌<◌, ◌≤◌, Bool, true, false, ◌&&◌, leb, List, length, get_or, drop, Decides, sym, refl, ap, ◌∙◌, ⊎_elim, arith}
-use Rattle.std.specs.List.{AllByRecursion as All}
+use Rattle.std.specs.List.{AllByRecursion}
 use Rattle.std.proofs.lemmas.List.{at_drop_more, at_drop_all}
 use Rattle.std.proofs.lemmas.Bool.{leb-true, le-leb, cases_lt}
 use Rattle.std.proofs.lemmas.Bool.Decides.{Decides-and, Decides-or, Decides-eqb, Decides-ltb, Decides-like}
@@ -39,12 +39,12 @@ of_decides Stem c =
     (Decides-or _ _ (between_decides 48 57 c) (Decides-or _ _ (Decides-eqb c 45) (Decides-eqb c 95))))
 of_decides Lower c = between_decides 97 122 c
 
-pub all_of : (k : Class) (s : List ℕ) → Decides (every (is_of k) s) (All (Of k) s)
+pub all_of : (k : Class) (s : List ℕ) → Decides (every (is_of k) s) (AllByRecursion (Of k) s)
 all_of k s = Decides-by_and (is_of k) (Of k) (every (is_of k)) (of_decides k) refl (λ _ _. refl) s
 
 -- what the test of a name is made of
 abbrev pub Parts : List ℕ → ℕ → Type 0
-Parts s n = (length s ≤ 128) × (All (Of Visible) s × ((0 < n) × (n < length s)))
+Parts s n = (length s ≤ 128) × (AllByRecursion (Of Visible) s × ((0 < n) × (n < length s)))
 
 name_from : (s : List ℕ) (n : ℕ) → FolderEnd s n → Parts s n → Name s
 name_from s n f p =

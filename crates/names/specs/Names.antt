@@ -1,6 +1,6 @@
 -- Which octets are a name, a folder, a bare name and a manifest's name, as relations. Assumes nothing.
 use Rattle.std.specs.Prelude.{◌≡◌, ℕ, ◌+◌, ◌-◌, ◌<◌, ◌≤◌, ◌⊎◌, List, ◌∷◌, ◌++◌, length, ◌≢◌, slice_index}
-use Rattle.std.specs.List.{AllByRecursion as All}
+use Rattle.std.specs.List.{AllByRecursion}
 use Rattle.names.specs.declared.Class.{Class}
 use Rattle.names.specs.declared.Class.TheVariants.{Visible, Stem, Lower}
 use Rattle.names.specs.declared.Ending.TheVariants.{Mft}
@@ -29,7 +29,7 @@ pub record FolderEnd (s : List ℕ) (n : ℕ) : Type 0 where
 pub record Name (s : List ℕ) : Type 0 where
   pub some : 1 ≤ length s
   pub short : length s ≤ 128
-  pub visible : All (Of Visible) s
+  pub visible : AllByRecursion (Of Visible) s
   pub slash : (k : ℕ) × ((k < length s) × (slice_index s k ≡ 47))
   pub goes_on : Slashed s → ⊥
 
@@ -37,7 +37,7 @@ pub record Name (s : List ℕ) : Type 0 where
 pub record Folder (s : List ℕ) : Type 0 where
   pub some : 1 ≤ length s
   pub short : length s ≤ 127
-  pub visible : All (Of Visible) s
+  pub visible : AllByRecursion (Of Visible) s
   pub ended : Slashed s
 
 -- a bare name: letters, digits, "-" or "_", at least one, then "." and three letters a to z
@@ -46,9 +46,9 @@ pub record Bare (s : List ℕ) : Type 0 where
   pub end : List ℕ
   pub whole : s ≡ stem ++ (46 ∷ end)
   pub some : 1 ≤ length stem
-  pub letters : All (Of Stem) stem
+  pub letters : AllByRecursion (Of Stem) stem
   pub three : length end ≡ 3
-  pub lower : All (Of Lower) end
+  pub lower : AllByRecursion (Of Lower) end
 
 abbrev pub EndsWith : List ℕ → List ℕ → Type 0
 EndsWith s t = (front : List ℕ) × (s ≡ front ++ t)

@@ -1,6 +1,6 @@
 -- The pieces of a text: they give it back, and pieces with marks between them are read as these. Assumes nothing.
 use Rattle.std.proofs.Common.{◌≡◌, ℕ, suc, ◌+◌, ◌-◌, ◌<◌, ◌≤◌, Bool, true, false, cond, not, ◌&&◌, eqb, List, [], ◌∷◌, ◌++◌, length, get_or, take, drop, Some, None, Option, sym, refl, ap, ◌∙◌, subst, inl, inr, arith}
-use Rattle.std.specs.List.{AllByRecursion as All}
+use Rattle.std.specs.List.{AllByRecursion}
 use Rattle.std.proofs.lemmas.List.{at_drop_more, at_drop_all, drop_more, drop_all, take_rest}
 use Rattle.std.proofs.lemmas.Bool.{cases_Bool, eqb-true, eq-eqb, ne_eqb}
 use Rattle.pieces.specs.Marks.{lengthened, pieces_of, joined, lacking, piece_end, pieces_after, pieces_past, take_piece, beside, and_then, read_next}
@@ -44,7 +44,7 @@ module _ (m : ℕ) where
 
   -- no piece holds the mark
   abbrev pub Markless : List (List ℕ) → Type 0
-  Markless ws = All (λ w. lacking m w ≡ true) ws
+  Markless ws = AllByRecursion (λ w. lacking m w ≡ true) ws
 
   pub lacking_more : (c x : ℕ) (s : List ℕ) → eqb x c ≡ false → lacking c s ≡ true → lacking c (x ∷ s) ≡ true
   lacking_more c x s e h = ap (λ (b : Bool). not b && lacking c s) e ∙ h

@@ -7,7 +7,7 @@
 #![tactic(auto)]
 
 ghost use Rattle.std.specs.Prelude.{◌≡◌, ℕ, ◌≤◌, true, length};
-ghost use Rattle.std.specs.List.{AllByRecursion as All};
+ghost use Rattle.std.specs.List.{AllByRecursion};
 ghost use Rattle.pieces.specs.Marks.{pieces_of, joined, lacking, piece_end, pieces_past, take_piece, beside, at_end};
 ghost use Rattle.pieces.specs.Views.{coming, left};
 
@@ -47,7 +47,7 @@ impl<'a> Pieces<'a> {
     pub fn of(text: &'a [u8], mark: u8) -> Pieces<'a>
         ensures value { left result ≡ pieces_of mark text.now }
         ensures joined { joined mark (pieces_of mark text.now) ≡ text.now }
-        ensures markless { All (λ w. lacking mark w ≡ true) (pieces_of mark text.now) }
+        ensures markless { AllByRecursion (λ w. lacking mark w ≡ true) (pieces_of mark text.now) }
     {
         Pieces {
             rest: Some(text),

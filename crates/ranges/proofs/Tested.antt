@@ -1,6 +1,6 @@
 -- That the tests of the lists decide their laws. Assumes nothing.
 use Rattle.std.proofs.Common.{◌≡◌, ℕ, ◌+◌, ◌<◌, true, ◌&&◌, List, [], ◌∷◌, Decides, refl, arith}
-use Rattle.std.specs.List.{AllByRecursion as All}
+use Rattle.std.specs.List.{AllByRecursion}
 use Rattle.std.proofs.ByRecursion.{All-weaker}
 use Rattle.std.proofs.lemmas.Bool.{and_parts, and_from, leb-true, le-leb, ltb-true, lt-ltb}
 use Rattle.std.proofs.lemmas.Bool.Decides.{nat_tests, Decides-and}
@@ -13,15 +13,15 @@ counted_decides rs = (λ e. (grind (arith, nat_tests), grind (arith, nat_tests))
 
 module _ {P : Type 0} (rank : P → ℕ) where
   -- where the first range begins past n, each does
-  pub past_all : (n : ℕ) (r : Range P) (rs : List (Range P)) → n < rank r.first → Ascending rank (r ∷ rs) → All (λ s. n < rank s.first) (r ∷ rs)
+  pub past_all : (n : ℕ) (r : Range P) (rs : List (Range P)) → n < rank r.first → Ascending rank (r ∷ rs) → AllByRecursion (λ s. n < rank s.first) (r ∷ rs)
   past_all n r rs h a =
       (h, All-weaker (λ s. rank r.last + 1 < rank s.first) (λ s. n < rank s.first) (λ s k. (let f = a.0 in omega arith)) rs a.1)
 
-  gap_all : (r : Range P) (rs : List (Range P)) → gap_before rank r rs ≡ true → Ascending rank rs → All (λ s. rank r.last + 1 < rank s.first) rs
+  gap_all : (r : Range P) (rs : List (Range P)) → gap_before rank r rs ≡ true → Ascending rank rs → AllByRecursion (λ s. rank r.last + 1 < rank s.first) rs
   gap_all r [] t a = tt
   gap_all r (s ∷ ss) t a = past_all (rank r.last + 1) s ss (ltb-true _ _ t) a
 
-  all_gap : (r : Range P) (rs : List (Range P)) → All (λ s. rank r.last + 1 < rank s.first) rs → gap_before rank r rs ≡ true
+  all_gap : (r : Range P) (rs : List (Range P)) → AllByRecursion (λ s. rank r.last + 1 < rank s.first) rs → gap_before rank r rs ≡ true
   all_gap r [] a = refl
   all_gap r (s ∷ ss) a = lt-ltb _ _ a.0
 

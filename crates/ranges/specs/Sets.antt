@@ -1,7 +1,7 @@
 -- Lists of ranges as sets of points (RFC 3779 2.2.3.6 and 3.2.3.4). `rank` numbers the points in their order, and `fits` holds
 -- of the values that a point can have. Assumes nothing.
 use Rattle.std.specs.Prelude.{◌≡◌, ℕ, ◌+◌, ◌<◌, ◌≤◌, Bool, ◌⊎◌, List, [], ◌∷◌, length, Ok, Err, Decides, Result}
-use Rattle.std.specs.List.{AllByRecursion as All}
+use Rattle.std.specs.List.{AllByRecursion}
 use Rattle.fault.specs.declared.Rule.{Rule}
 use Rattle.fault.specs.declared.Rule.TheVariants as rule
 use Rattle.ranges.specs.declared.Range.{Range}
@@ -12,7 +12,7 @@ Counted rs = (0 < length rs) × (length rs ≤ 256)
 
 -- every end of every range is a value that a point can have
 abbrev pub Fit : {P : Type 0} → (P → Type 0) → List (Range P) → Type 0
-Fit fits rs = All (λ r. fits r.first × fits r.last) rs
+Fit fits rs = AllByRecursion (λ r. fits r.first × fits r.last) rs
 
 module _ {P : Type 0} (rank : P → ℕ) where
   -- x is a point of the range, whose ends both belong to it (RFC 3779 2.2.3.9 and 3.2.3.8)
@@ -28,7 +28,7 @@ module _ {P : Type 0} (rank : P → ℕ) where
   -- overlap or touch (RFC 3779 2.2.3.6 and 3.2.3.4)
   abbrev pub Ascending : List (Range P) → Type 0
   Ascending [] = Unit {0}
-  Ascending (r ∷ rs) = (rank r.first ≤ rank r.last) × All (λ s. rank r.last + 1 < rank s.first) rs × Ascending rs
+  Ascending (r ∷ rs) = (rank r.first ≤ rank r.last) × AllByRecursion (λ s. rank r.last + 1 < rank s.first) rs × Ascending rs
 
   -- a list as this validator takes it
   abbrev pub Lawful : List (Range P) → Type 0

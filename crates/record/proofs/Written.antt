@@ -1,6 +1,6 @@
 -- What was written is read, and what was read is what stands there. Assumes nothing.
 use Rattle.std.proofs.Common.{◌≡◌, ℕ, ◌+◌, ◌*◌, ◌/◌, ◌%◌, ◌^◌, ◌<◌, ◌≤◌, eqb, ◌⊎◌, List, [], ◌∷◌, ◌++◌, length, take, drop, Some, Option, sym, refl, ap, ◌∙◌, subst, inl, inr, append_assoc, append-nil, arith}
-use Rattle.std.specs.List.{AllByRecursion as All}
+use Rattle.std.specs.List.{AllByRecursion}
 use Rattle.std.proofs.ByRecursion.{All-drop}
 use Rattle.std.proofs.lemmas.List.{length-append, length-drop, length-take-le, take_at, drop_at, take-append-drop, drop-drop}
 use Rattle.std.proofs.lemmas.Bool.{eq-eqb, ne_eqb, eqb-true, cond-true, cond-false, cases_eq}
@@ -72,7 +72,7 @@ written_read (r ∷ rs) more h =
     ∙ ap (λ (l : List Entry). r ∷ l) (written_read rs more h.1)
 
 -- three octets are the length that they write
-three_octets : (s : List ℕ) → 3 ≤ length s → All (λ x. x < 0x100) s → s ≡ length_octets (length_at s) ++ drop 3 s
+three_octets : (s : List ℕ) → 3 ≤ length s → AllByRecursion (λ x. x < 0x100) s → s ≡ length_octets (length_at s) ++ drop 3 s
 three_octets [] h o = absurd (omega arith)
 three_octets (a ∷ []) h o = absurd (omega arith)
 three_octets (a ∷ (b ∷ [])) h o = absurd (omega arith)
@@ -87,7 +87,7 @@ three_octets (a ∷ (b ∷ (c ∷ s))) h o =
     ap (λ (v : ℕ). v ∷ (b ∷ (c ∷ s))) x ∙ ap (λ (v : ℕ). n / 0x10000 ∷ (v ∷ (c ∷ s))) y ∙ ap (λ (v : ℕ). n / 0x10000 ∷ (n / 0x100 % 0x100 ∷ (v ∷ s))) z
 
 -- what three octets write is below 2^24
-length_small : (s : List ℕ) → 3 ≤ length s → All (λ x. x < 0x100) s → length_at s < 2 ^ 24
+length_small : (s : List ℕ) → 3 ≤ length s → AllByRecursion (λ x. x < 0x100) s → length_at s < 2 ^ 24
 length_small [] h o = absurd (omega arith)
 length_small (a ∷ []) h o = absurd (omega arith)
 length_small (a ∷ (b ∷ [])) h o = absurd (omega arith)
@@ -98,7 +98,7 @@ length_small (a ∷ (b ∷ (c ∷ s))) h o =
     omega arith
 
 -- octets that are read as a field are the field's octets and the rest, and the field can be written
-field_stands : (s : List ℕ) (p : List ℕ × List ℕ) → All (λ x. x < 0x100) s → field_of s ≡ Some p → (s ≡ field_octets p.0 ++ p.1) × All (λ x. x < 0x100) p.1 × (length p.0 < 2 ^ 24)
+field_stands : (s : List ℕ) (p : List ℕ × List ℕ) → AllByRecursion (λ x. x < 0x100) s → field_of s ≡ Some p → (s ≡ field_octets p.0 ++ p.1) × AllByRecursion (λ x. x < 0x100) p.1 × (length p.0 < 2 ^ 24)
 field_stands s p o e =
     let w = field_some s p e in
     let n = length_at s in
@@ -110,16 +110,16 @@ field_stands s p o e =
     ∙ ap (λ (l : List ℕ). length_octets n ++ l) (sym (take-append-drop n (drop 3 s)) ∙ ap (λ (l : List ℕ). f ++ l) (drop-drop n 3 s))
     ∙ ap (λ (m : ℕ). length_octets m ++ (f ++ drop (3 + n) s)) (sym size) in (
       stands ∙ ap (λ (x : List ℕ × List ℕ). field_octets x.0 ++ x.1) (sym w.1),
-      subst (λ (x : List ℕ × List ℕ). All (λ y. y < 0x100) x.1) (sym w.1) (All-drop (λ y. y < 0x100) (3 + n) s o),
+      subst (λ (x : List ℕ × List ℕ). AllByRecursion (λ y. y < 0x100) x.1) (sym w.1) (All-drop (λ y. y < 0x100) (3 + n) s o),
       (let same : length p.0 ≡ length f = ap (λ (x : List ℕ × List ℕ). length x.0) w.1 in omega (arith, length_small s (omega arith) o)),
     )
 
 -- octets that are read as a record are the record's octets and the rest, and the record can be written
-record_stands : (s : List ℕ) (q : Entry × List ℕ) → All (λ x. x < 0x100) s → record_of s ≡ Some q → (s ≡ record_octets q.0 ++ q.1) × All (λ x. x < 0x100) q.1 × Writable q.0
+record_stands : (s : List ℕ) (q : Entry × List ℕ) → AllByRecursion (λ x. x < 0x100) s → record_of s ≡ Some q → (s ≡ record_octets q.0 ++ q.1) × AllByRecursion (λ x. x < 0x100) q.1 × Writable q.0
 record_stands [] q o e = absurd (none_some e)
 record_stands (k ∷ s) q o e = by_kind k (cases_eq k 0x44) (cases_eq k 0x59) e
   where
-    digest_stands : digest_record s ≡ Some q → (0x44 ∷ s ≡ record_octets q.0 ++ q.1) × All (λ x. x < 0x100) q.1 × Writable q.0
+    digest_stands : digest_record s ≡ Some q → (0x44 ∷ s ≡ record_octets q.0 ++ q.1) × AllByRecursion (λ x. x < 0x100) q.1 × Writable q.0
     digest_stands e =
         let a = then_some (field_of s) _ q e in
         let v = field_stands s a.0 o.1 a.1 in
@@ -130,11 +130,11 @@ record_stands (k ∷ s) q o e = by_kind k (cases_eq k 0x44) (cases_eq k 0x59) e
         let r : (Known a.0.0 b.0.0, b.0.1) ≡ q = ap (λ (x : List ℕ). (Known a.0.0 x, b.0.1)) (sym d.1) ∙ some_same c.2 in (
           ap (λ (l : List ℕ). 0x44 ∷ l) (v.0 ∙ ap (λ (l : List ℕ). field_octets a.0.0 ++ l) w.0 ∙ sym (append_assoc (field_octets a.0.0) (field_octets b.0.0) b.0.1))
               ∙ ap (λ (x : Entry × List ℕ). record_octets x.0 ++ x.1) r,
-          subst (λ (x : Entry × List ℕ). All (λ y. y < 0x100) x.1) r w.1,
+          subst (λ (x : Entry × List ℕ). AllByRecursion (λ y. y < 0x100) x.1) r w.1,
           subst (λ (x : Entry × List ℕ). Writable x.0) r (v.2, eqb-true _ _ d.0),
         )
 
-    verdict_stands : verdict_record s ≡ Some q → (0x59 ∷ s ≡ record_octets q.0 ++ q.1) × All (λ x. x < 0x100) q.1 × Writable q.0
+    verdict_stands : verdict_record s ≡ Some q → (0x59 ∷ s ≡ record_octets q.0 ++ q.1) × AllByRecursion (λ x. x < 0x100) q.1 × Writable q.0
     verdict_stands e =
         let a = then_some (field_of s) _ q e in
         let v = field_stands s a.0 o.1 a.1 in
@@ -148,24 +148,24 @@ record_stands (k ∷ s) q o e = by_kind k (cases_eq k 0x44) (cases_eq k 0x59) e
         let kc = field_octets c.0.0 in (
           ap (λ (l : List ℕ). 0x59 ∷ l) (v.0 ∙ ap (λ (l : List ℕ). ka ++ l) (w.0 ∙ ap (λ (l : List ℕ). kb ++ l) u.0 ∙ sym (append_assoc kb kc c.0.1)) ∙ sym (append_assoc ka (kb ++ kc) c.0.1))
               ∙ ap (λ (x : Entry × List ℕ). record_octets x.0 ++ x.1) r,
-          subst (λ (x : Entry × List ℕ). All (λ y. y < 0x100) x.1) r u.1,
+          subst (λ (x : Entry × List ℕ). AllByRecursion (λ y. y < 0x100) x.1) r u.1,
           subst (λ (x : Entry × List ℕ). Writable x.0) r (v.2, w.2, u.2),
         )
 
-    by_kind : (k : ℕ) → (k ≡ 0x44) ⊎ (k ≡ 0x44 → ⊥) → (k ≡ 0x59) ⊎ (k ≡ 0x59 → ⊥) → record_by k s ≡ Some q → (k ∷ s ≡ record_octets q.0 ++ q.1) × All (λ x. x < 0x100) q.1 × Writable q.0
+    by_kind : (k : ℕ) → (k ≡ 0x44) ⊎ (k ≡ 0x44 → ⊥) → (k ≡ 0x59) ⊎ (k ≡ 0x59 → ⊥) → record_by k s ≡ Some q → (k ∷ s ≡ record_octets q.0 ++ q.1) × AllByRecursion (λ x. x < 0x100) q.1 × Writable q.0
     by_kind k (inl x) y e =
-        subst (λ (n : ℕ). (n ∷ s ≡ record_octets q.0 ++ q.1) × All (λ x. x < 0x100) q.1 × Writable q.0) (sym x) (digest_stands (sym (ap (λ (n : ℕ). record_by n s) x) ∙ e))
+        subst (λ (n : ℕ). (n ∷ s ≡ record_octets q.0 ++ q.1) × AllByRecursion (λ x. x < 0x100) q.1 × Writable q.0) (sym x) (digest_stands (sym (ap (λ (n : ℕ). record_by n s) x) ∙ e))
     by_kind k (inr x) (inl y) e =
-        subst (λ (n : ℕ). (n ∷ s ≡ record_octets q.0 ++ q.1) × All (λ x. x < 0x100) q.1 × Writable q.0) (sym y) (verdict_stands (sym (ap (λ (n : ℕ). record_by n s) y) ∙ e))
+        subst (λ (n : ℕ). (n ∷ s ≡ record_octets q.0 ++ q.1) × AllByRecursion (λ x. x < 0x100) q.1 × Writable q.0) (sym y) (verdict_stands (sym (ap (λ (n : ℕ). record_by n s) y) ∙ e))
     by_kind k (inr x) (inr y) e =
         absurd (none_some (sym (cond-false _ _ _ (ne_eqb k 0x44 x) ∙ cond-false _ _ _ (ne_eqb k 0x59 y)) ∙ e))
 
 pub book_is : BookIsItsRecords
 book_is book o = (stands book o, leftover_ends book)
   where
-    stands : (s : List ℕ) → All (λ x. x < 0x100) s → s ≡ book_of (records s) ++ leftover s
+    stands : (s : List ℕ) → AllByRecursion (λ x. x < 0x100) s → s ≡ book_of (records s) ++ leftover s
     stands =
-        by_records (λ s. All (λ x. x < 0x100) s → s ≡ book_of (records s) ++ leftover s)
+        by_records (λ s. AllByRecursion (λ x. x < 0x100) s → s ≡ book_of (records s) ++ leftover s)
         (λ s e o. sym (ap (λ (l : List Entry). book_of l ++ leftover s) (records_none s e) ∙ leftover_none s e))
         (λ s q e ih o.
         let h = record_stands s q o e in
@@ -175,13 +175,13 @@ book_is book o = (stands book o, leftover_ends book)
         ∙ sym (ap (λ (l : List Entry). book_of l ++ leftover s) (records_some s q e) ∙ ap (λ (l : List ℕ). book_of (q.0 ∷ records q.1) ++ l) (leftover_some s q e)))
 
 -- records that were read can be written
-all_writable : (s : List ℕ) → All (λ x. x < 0x100) s → All Writable (records s)
+all_writable : (s : List ℕ) → AllByRecursion (λ x. x < 0x100) s → AllByRecursion Writable (records s)
 all_writable =
-    by_records (λ s. All (λ x. x < 0x100) s → All Writable (records s))
-    (λ s e o. subst (λ (l : List Entry). All Writable l) (sym (records_none s e)) tt)
-    (λ s q e ih o. let h = record_stands s q o e in subst (λ (l : List Entry). All Writable l) (sym (records_some s q e)) (h.2, ih h.1))
+    by_records (λ s. AllByRecursion (λ x. x < 0x100) s → AllByRecursion Writable (records s))
+    (λ s e o. subst (λ (l : List Entry). AllByRecursion Writable l) (sym (records_none s e)) tt)
+    (λ s q e ih o. let h = record_stands s q o e in subst (λ (l : List Entry). AllByRecursion Writable l) (sym (records_some s q e)) (h.2, ih h.1))
 
-written_whole : (rs : List Entry) → All Writable rs → Whole (book_of rs)
+written_whole : (rs : List Entry) → AllByRecursion Writable rs → Whole (book_of rs)
 written_whole [] h = leftover_empty
 written_whole (r ∷ rs) h =
     leftover_some (record_octets r ++ book_of rs) (r, book_of rs) (record_written r (book_of rs) h.0) ∙ written_whole rs h.1

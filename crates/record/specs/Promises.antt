@@ -1,6 +1,6 @@
 -- What is promised of the records of a book. Assumes nothing.
 use Rattle.std.specs.Prelude.{◌≡◌, ℕ, ◌<◌, List, [], ◌∷◌, ◌++◌, None}
-use Rattle.std.specs.List.{AllByRecursion as All}
+use Rattle.std.specs.List.{AllByRecursion}
 use Rattle.record.specs.Format.{Entry, record_of, records, leftover, Whole}
 use Rattle.record.specs.Writing.{record_octets, book_of, Writable}
 
@@ -17,16 +17,16 @@ AppendedRecordIsTheLast =
 -- a book of octets is its records, written one after another, and then octets at whose front no whole record stands
 abbrev pub BookIsItsRecords : Type 0
 BookIsItsRecords =
-    (book : List ℕ) → All (λ x. x < 0x100) book
+    (book : List ℕ) → AllByRecursion (λ x. x < 0x100) book
     → (book ≡ book_of (records book) ++ leftover book) × (record_of (leftover book) ≡ None)
 
 -- records that can be written are read again, whatever follows them
 abbrev pub WrittenRecordsAreRead : Type 0
 WrittenRecordsAreRead =
-    (rs : List Entry) (more : List ℕ) → All Writable rs → records (book_of rs ++ more) ≡ rs ++ records more
+    (rs : List Entry) (more : List ℕ) → AllByRecursion Writable rs → records (book_of rs ++ more) ≡ rs ++ records more
 
 -- without what stands after its whole records, a book is whole and has the same records
 abbrev pub LeftoverSaysNothing : Type 0
 LeftoverSaysNothing =
-    (book : List ℕ) → All (λ x. x < 0x100) book
+    (book : List ℕ) → AllByRecursion (λ x. x < 0x100) book
     → (records (book_of (records book)) ≡ records book) × Whole (book_of (records book))

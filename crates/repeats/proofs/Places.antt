@@ -2,7 +2,7 @@
 use Rattle.std.proofs.Common.{◌≡◌, ℕ, zero, suc, ◌+◌, ◌-◌, ◌<◌, ◌≤◌, Bool, true, false, cond, eqb, List, [], ◌∷◌, ◌++◌, length, get_or, take, drop, set, Option, sym, refl, ap, ◌∙◌, subst, inl, inr, arith}
 use borrow.Rule.Slice.PartMut.{put_mid}
 use Rattle.std.specs.List.Sorted.{IsPermutation}
-use Rattle.std.specs.List.{ContainsAt as Has, AllByRecursion as All}
+use Rattle.std.specs.List.{ContainsAt as Has, AllByRecursion}
 use Rattle.std.proofs.lemmas.List.Sorted.{length_permutation}
 use Rattle.std.proofs.ByRecursion.{all_shuffled, has_shuffled, has_get_or, All-from_get_or}
 use Rattle.std.proofs.lemmas.Slice.{take-put_mid, drop-put_mid}
@@ -29,7 +29,7 @@ place_by : (t : Bool) (s : Spot) (ss : List Spot) (i p : ℕ) → eqb s.index i 
 place_by true s ss i p e h k = h (eqb-true _ _ e)
 place_by false s ss i p e h k = k refl
 
-place_is : (i p : ℕ) (ys : List Spot) → All (λ (s : Spot). s.index ≡ i → s.place ≡ p) ys → (x : Spot) → x.index ≡ i → Has ys x → place_with i ys ≡ p
+place_is : (i p : ℕ) (ys : List Spot) → AllByRecursion (λ (s : Spot). s.index ≡ i → s.place ≡ p) ys → (x : Spot) → x.index ≡ i → Has ys x → place_with i ys ≡ p
 place_is i p [] a x e h = absurd (let l : h.0 < zero = h.1 in omega arith)
 place_is i p (s ∷ ss) a x e (zero, l, at) =
     place_by (eqb s.index i) s ss i p refl a.0 (λ f. absurd (eqb-false _ _ f (ap (λ (t : Spot). t.index) (at s) ∙ e)))
@@ -42,7 +42,7 @@ place_shuffled [] ys i n s l = absurd (omega arith)
 place_shuffled (z ∷ zs) ys i n s l =
     let xs = z ∷ zs in
     let p = (get_or xs i z).place in
-    let own : All (λ (t : Spot). t.index ≡ i → t.place ≡ p) xs = All-from_get_or (λ (t : Spot). t.index ≡ i → t.place ≡ p) xs z
+    let own : AllByRecursion (λ (t : Spot). t.index ≡ i → t.place ≡ p) xs = All-from_get_or (λ (t : Spot). t.index ≡ i → t.place ≡ p) xs z
     (λ k lk e. ap (λ (m : ℕ). (get_or xs m z).place) (sym (n k z lk) ∙ e)) in
     place_is i p ys (all_shuffled (λ (t : Spot). t.index ≡ i → t.place ≡ p) xs ys s own) (get_or xs i z) (n i z l) (has_shuffled xs ys (get_or xs i z) s (has_get_or xs i z l))
     ∙ sym (get_or-map (λ (t : Spot). t.place) xs i z 0 l)
