@@ -1,12 +1,12 @@
 -- The entries that were noted, decided by the first repeat. Assumes nothing.
-use Rattle.std.proofs.Common.{◌≡◌, ℕ, List, [], length, IfOk, Some, None, Ok, Err, Option, Result, sym, refl, ap, ◌∙◌, subst}
+use Rattle.std.proofs.Common.{◌≡◌, ℕ, List, [], length, IfOk, Some, None, Ok, Option, Result, sym, refl, ap, ◌∙◌, subst}
 use Rattle.fault.specs.declared.Report.{Report}
 use Rattle.file_faults.specs.declared.ContentFault.{ContentFault}
 use Rattle.file_faults.specs.Reports.{content_report}
 use Rattle.element.specs.Reading.{Octets}
 use Rattle.layout.specs.Expecting.{told_by, then_read}
 use Rattle.repeats.specs.declared.Spot.{Spot}
-use Rattle.repeats.specs.Reading.{Noted, noted, tested, unless_repeat, repeat_in, decided}
+use Rattle.repeats.specs.Reading.{tested, unless_repeat, repeat_in, decided}
 use Rattle.repeats.proofs.Looking.{looking_after}
 use Rattle.manifest.specs.declared.ManifestEntry.{ManifestEntry}
 use Rattle.manifest.specs.Manifests.{Listed, Begun, State, named_twice, entry_reader, listed, entries_of}

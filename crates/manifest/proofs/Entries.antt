@@ -1,15 +1,15 @@
 -- Reading entries one after the other, with their names noted. Assumes nothing.
-use Rattle.std.proofs.Common.{◌≡◌, ℕ, zero, suc, ◌+◌, ◌-◌, ◌*◌, ◌<◌, ◌≤◌, Bool, true, false, cond, not, eqb, List, [], ◌∷◌, ◌++◌, map, length, take, drop, set, Ok, Err, Result, sym, refl, ap, ◌∙◌, subst, arith}
-use Rattle.std.proofs.lemmas.List.{take_more_set, map_push, drop-set-lt, append_assoc, append-nil, drop-drop}
+use Rattle.std.proofs.Common.{◌≡◌, ℕ, zero, suc, ◌+◌, ◌-◌, ◌*◌, ◌<◌, ◌≤◌, Bool, true, cond, not, eqb, List, [], ◌∷◌, ◌++◌, map, length, take, drop, set, Ok, Err, Result, sym, refl, ap, ◌∙◌, subst, arith}
+use Rattle.std.proofs.lemmas.List.{take_more_set, map_push, append_assoc, append-nil, drop-drop}
 use Rattle.std.proofs.lemmas.Bool.Decides.{nat_tests}
 use Rattle.fault.specs.declared.Report.{Report}
-use Rattle.element.specs.Reading.{Seen, Octets}
-use Rattle.layout.specs.Expecting.{then_read, inside}
+use Rattle.element.specs.Reading.{Octets}
+use Rattle.layout.specs.Expecting.{then_read}
 use Rattle.repeats.specs.declared.Spot.{Spot}
 use Rattle.repeats.specs.Repeats.{Notes}
-use Rattle.repeats.specs.Reading.{Reader, Noted, noted, note_first, note_onward}
+use Rattle.repeats.specs.Reading.{Noted, noted, note_first, note_onward}
 use Rattle.manifest.specs.declared.ManifestEntry.{ManifestEntry}
-use Rattle.manifest.specs.Manifests.{Listed, Opened, Begun, State, added, listed, listed_of, opened_of, digest_of, entry_reader}
+use Rattle.manifest.specs.Manifests.{Listed, Opened, Begun, State, added, listed, listed_of, opened_of, entry_reader}
 use Rattle.manifest.specs.Steps.{NotesOne, Took, Begins, NotedAs}
 
 pub stored : (ts : List ManifestEntry) (n : ℕ) (e : ManifestEntry) → n < length ts → listed (n + 1) (set ts n e) ≡ listed n ts ++ listed_of e ∷ []

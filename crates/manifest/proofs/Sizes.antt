@@ -1,14 +1,14 @@
 -- How many octets an entry takes at least. Assumes nothing.
-use Rattle.std.proofs.Common.{◌≡◌, ℕ, zero, suc, ◌+◌, ◌-◌, ◌<◌, ◌≤◌, min, Bool, true, false, cond, eqb, List, [], ◌∷◌, length, take, drop, Ok, Err, Result, sym, refl, ap, ◌∙◌, subst, arith, length-drop, length-take}
+use Rattle.std.proofs.Common.{◌≡◌, ℕ, ◌+◌, ◌-◌, ◌≤◌, min, Bool, true, false, cond, eqb, List, [], length, take, drop, Ok, Err, Result, sym, refl, ap, ◌∙◌, subst, arith, length-drop, length-take}
 use Rattle.std.proofs.lemmas.Bool.{and_parts, leb-true, eqb-true}
 use Rattle.std.proofs.lemmas.Bool.Decides.{nat_tests}
 use Rattle.fault.specs.declared.Breach.{Breach}
 use Rattle.fault.specs.declared.Report.{Report}
 use Rattle.fault.specs.declared.ElementFault.{ElementFault}
-use Rattle.fault.specs.declared.Rule.TheVariants.{Structure, Value}
+use Rattle.fault.specs.declared.Rule.TheVariants.{Value}
 use Rattle.fault.specs.declared.Layer.TheVariants.{Content}
 use Rattle.element.specs.Reading.{Seen, Octets, measured, read_form, read_at, read_of}
-use Rattle.layout.specs.Expecting.{then_read, broken, tagged, expect_of, end_of, inside}
+use Rattle.layout.specs.Expecting.{then_read, broken, tagged, expect_of, inside}
 use Rattle.fields.specs.Fields.{passing, lawful, tested_of, is_whole, is_number20, number20_of, gtime_of, after_first, whole_bits_of}
 use Rattle.moment.specs.Times.{generalized_of}
 use Rattle.std.specs.Str.{bytes_eq}

@@ -1,5 +1,5 @@
 -- The content of a manifest (RFC 9286 4.2). Assumes nothing.
-use Rattle.std.specs.Prelude.{ℕ, cond, not, List, [], ◌∷◌, ◌++◌, map, length, take, Ok, Err, Result, ◌==◌}
+use Rattle.std.specs.Prelude.{ℕ, cond, not, List, [], ◌∷◌, ◌++◌, map, length, take, Ok, Result, ◌==◌}
 use Rattle.std.specs.Str.{bytes_eq}
 use Rattle.fault.specs.declared.Rule.TheVariants.{Value}
 use Rattle.fault.specs.declared.Layer.TheVariants.{Content}
@@ -12,7 +12,7 @@ use Rattle.element.specs.declared.Part.{Part}
 use Rattle.element.specs.Reading.{Seen, Octets, seen, octets_of}
 use Rattle.layout.specs.Expecting.{broken, then_read, expect_of, end_of, inside}
 use Rattle.fields.specs.Fields.{number20_of, gtime_of, whole_bits_of}
-use Rattle.repeats.specs.Reading.{Reader, tested, noted}
+use Rattle.repeats.specs.Reading.{Reader, tested}
 use Rattle.names.specs.Tests.{is_bare}
 use Rattle.manifest.specs.declared.ManifestEntry.{ManifestEntry}
 use Rattle.manifest.specs.declared.Front.{Front}

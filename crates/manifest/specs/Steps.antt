@@ -1,5 +1,5 @@
 -- What reading the entries one after the other leaves in the lent tables. Assumes nothing.
-use Rattle.std.specs.Prelude.{◌≡◌, ℕ, ◌+◌, ◌≤◌, List, [], ◌∷◌, ◌++◌, map, length, take, drop, Ok, Err, Result}
+use Rattle.std.specs.Prelude.{◌≡◌, ℕ, ◌+◌, ◌≤◌, List, [], ◌∷◌, ◌++◌, map, length, drop, Ok, Err, Result}
 use Rattle.fault.specs.declared.Report.{Report}
 use Rattle.file_faults.specs.Reports.{content_report}
 use Rattle.element.specs.Reading.{Octets, octets_of, Placed}

@@ -1,4 +1,4 @@
-use Rattle.std.proofs.Common.{◌≡◌, ℕ, ◌+◌, ◌*◌, ◌<◌, ◌≤◌, List, [], length, Err, sym, ap, subst, arith}
+use Rattle.std.proofs.Common.{◌≡◌, ℕ, ◌+◌, ◌≤◌, List, length, Err, sym, ap, subst, arith}
 use Rattle.element.specs.Reading.{Octets, octets_of}
 use Rattle.file_faults.specs.Reports.{content_report}
 use Rattle.layout.proofs.Rows.{some_left, none_left}

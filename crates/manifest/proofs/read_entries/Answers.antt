@@ -1,4 +1,4 @@
-use Rattle.std.proofs.Common.{◌≡◌, ℕ, ◌≤◌, length, drop, Ok, Err, refl, subst}
+use Rattle.std.proofs.Common.{◌≡◌, ℕ, ◌≤◌, length, drop, Ok, Err, refl}
 use Rattle.element.specs.Reading.{octets_of}
 use Rattle.manifest.proofs.Deciding.{decides, made_unless}
 use Rattle.manifest.proofs.read_entries.Goals as goal
