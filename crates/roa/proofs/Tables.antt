@@ -1,9 +1,9 @@
 -- The table into which rows are read. Assumes nothing.
-use Rattle.std.proofs.Common.{◌≡◌, ℕ, ◌+◌, ◌-◌, ◌<◌, ◌≤◌, List, [], ◌∷◌, ◌++◌, length, take, drop, set, Ok, Err, Result, sym, refl, ap, ◌∙◌, arith}
-use Rattle.std.proofs.lemmas.List.{take_more_set, length-take-le, drop-set-lt, drop-drop}
+use Rattle.std.proofs.Common.{◌≡◌, ℕ, ◌+◌, ◌-◌, ◌<◌, ◌≤◌, List, [], ◌∷◌, ◌++◌, length, take, drop, set, Ok, Err, Result, sym, ap, ◌∙◌, arith}
+use Rattle.std.proofs.lemmas.List.{take_more_set, length-take-le, drop-drop}
 use Rattle.fault.specs.declared.Report.{Report}
 use Rattle.payload.specs.declared.Family.{Family}
-use Rattle.element.specs.Reading.{Seen, Octets}
+use Rattle.element.specs.Reading.{Seen}
 use Rattle.layout.specs.Expecting.{then_read}
 use Rattle.roa.specs.declared.RoaRow.{RoaRow}
 use Rattle.roa.specs.Rows.{row_in, row_step}

@@ -1,5 +1,5 @@
 -- The content of a ROA (RFC 9582 4): roa = S{INT S{S{OCT S{S{BITS INT?}+}}+}}. Assumes nothing.
-use Rattle.std.specs.Prelude.{ℕ, cond, List, [], length, take, Ok, Err, Result, ◌==◌}
+use Rattle.std.specs.Prelude.{ℕ, cond, List, [], length, take, Ok, Result, ◌==◌}
 use Rattle.fault.specs.declared.Rule.TheVariants.{Structure}
 use Rattle.fault.specs.declared.Layer.TheVariants.{Content}
 use Rattle.fault.specs.declared.Report.{Report}

@@ -1,5 +1,5 @@
 -- The rows of a ROA (RFC 9582 4.3.2 and 4.3.3): a prefix, and the longest prefix in it that the AS may announce. Assumes nothing.
-use Rattle.std.specs.Prelude.{ℕ, ◌-◌, ◌*◌, ◌^◌, cond, ◌&&◌, List, [], ◌∷◌, ◌++◌, length, Some, None, Ok, Err, Option, Result, ◌==◌, nat_le}
+use Rattle.std.specs.Prelude.{ℕ, ◌-◌, ◌*◌, ◌^◌, cond, ◌&&◌, List, [], ◌∷◌, ◌++◌, length, Some, None, Ok, Option, Result, ◌==◌, nat_le}
 use Rattle.fault.specs.declared.Rule.TheVariants.{Structure, Count}
 use Rattle.fault.specs.declared.Layer.TheVariants.{Content}
 use Rattle.fault.specs.declared.Report.{Report}

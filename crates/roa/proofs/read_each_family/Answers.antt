@@ -1,4 +1,4 @@
-use Rattle.std.proofs.Common.{take, sym, ◌∙◌, arith}
+use Rattle.std.proofs.Common.{sym, ◌∙◌, arith}
 use Rattle.std.proofs.lemmas.Result.{err_from_is_err_and}
 use Rattle.element.specs.Reading.{seen, octets_of}
 use Rattle.layout.proofs.Rows.{some_left, none_left, ended, no-element, refused, taken}
