@@ -1,5 +1,5 @@
 -- Octets, ranges, payloads and routes worked out by hand. Assumes nothing.
-use Rattle.std.specs.Prelude.{◌≡◌, ℕ, ◌*◌, ◌^◌, List, [], ◌∷◌, Some, None, Ok, Err, Option, Result}
+use Rattle.std.specs.Prelude.{◌≡◌, ℕ, ◌*◌, ◌^◌, List, [], ◌∷◌, Some, None, Ok, Err, Result}
 use Rattle.fault.specs.declared.Rule.TheVariants.{Form, Order}
 use Rattle.fault.specs.declared.Layer.TheVariants.{Element, Set}
 use Rattle.fault.specs.declared.Report.{Report}
@@ -15,7 +15,6 @@ use Rattle.lists.specs.Entries.{Reading, entries_of}
 use Rattle.payload.specs.declared.Family.TheVariants.{Ipv4}
 use Rattle.payload.specs.declared.Prefix.{Prefix}
 use Rattle.payload.specs.declared.Payload.{Payload}
-use Rattle.verdict.specs.declared.Verdict.{Verdict}
 use Rattle.verdict.specs.declared.Verdict.TheVariants.{Valid, Invalid, NotFound}
 use Rattle.verdict.specs.Routes.{judged}
 
