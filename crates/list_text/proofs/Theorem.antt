@@ -1,11 +1,11 @@
 -- A word is read as a list exactly where it is the list's text, and a text is read as its list. Assumes nothing.
-use Rattle.std.proofs.Common.{◌≡◌, ℕ, Bool, true, false, cond, ◌⊎◌, List, [], ◌∷◌, ◌++◌, map, Some, None, codes, Option, sym, refl, ap, ◌∙◌, subst, inl, inr, arith}
+use Rattle.std.proofs.Common.{◌≡◌, ℕ, Bool, true, cond, List, [], ◌∷◌, ◌++◌, map, Some, None, codes, Option, sym, refl, ap, ◌∙◌, subst, inl, inr}
 use Rattle.std.specs.List.{AllByRecursion}
 use Rattle.std.specs.Str.{bytes_eq}
 use Rattle.std.proofs.lemmas.Slice.Eq.{bytes_eq-Decides}
 use Rattle.std.proofs.lemmas.List.{append-nil}
 use Rattle.std.proofs.lemmas.Bool.{cases_Bool}
-use Rattle.pieces.specs.Marks.{pieces_of, piece_end, pieces_past, joined, lacking, take_piece, and_then, read_next, at_end}
+use Rattle.pieces.specs.Marks.{pieces_of, joined, lacking, and_then, read_next, at_end}
 use Rattle.pieces.proofs.Splits.{joined_pieces, pieces_joined, pieces_first}
 use Rattle.point_text.specs.Parts.{none_some, then_inv, end_inv, lacking_parts}
 use Rattle.ranges.specs.declared.Range.{Range}

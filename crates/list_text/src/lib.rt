@@ -21,7 +21,7 @@ use std::alloc::{AllocError, Global};
 
 // The point that the next piece writes.
 fn next_point<P: PointText>(ends: &mut Pieces<'_>) -> Option<P>
-    ensures { beside (λ x. x) result (left ends.new) ≡ read_next reads (left ends.old) }
+    ensures { beside (λ x. x) result (left ends.new) ≡ read_next P.reads (left ends.old) }
 {
     let Some(end) = ends.next() else {
         return None;
@@ -31,7 +31,7 @@ fn next_point<P: PointText>(ends: &mut Pieces<'_>) -> Option<P>
 
 // The range that a word writes.
 fn read_range<P: PointText>(word: &[u8]) -> Option<Range<P>>
-    ensures { result ≡ range_of reads word.now }
+    ensures { result ≡ range_of P.reads word.now }
 {
     let mut ends = Pieces::of(word, b'-');
     let first = next_point::<P>(&mut ends)?;
@@ -43,12 +43,12 @@ fn read_range<P: PointText>(word: &[u8]) -> Option<Range<P>>
 fn is_none(word: &[u8]) -> bool
     ensures { result ≡ bytes_eq word.now (codes "none") }
 {
-    word == b"none"
+    word == b"none".as_slice()
 }
 
 // Whether each of the words that are left is a range.
 fn are_ranges<P: PointText>(words: &mut Pieces<'_>) -> bool
-    ensures { result ≡ is_some (all_ranges reads (left words.old)) }
+    ensures { result ≡ is_some (all_ranges P.reads (left words.old)) }
 {
     while let Some(word) = words.next() {
         match read_range::<P>(word) {
@@ -61,7 +61,7 @@ fn are_ranges<P: PointText>(words: &mut Pieces<'_>) -> bool
 
 // Whether a word is a list.
 pub fn is_list<P: PointText>(word: &[u8]) -> bool
-    ensures { result ≡ is_some (list_of reads word.now) }
+    ensures { result ≡ is_some (list_of P.reads word.now) }
 {
     if is_none(word) {
         return true;
@@ -74,7 +74,7 @@ fn read_ranges<P: PointText>(
     heap: Global,
     words: &mut Pieces<'_>,
 ) -> Result<Option<Vec<Range<P>>>, AllocError>
-    ensures { IfOk result (λ o. option_map vec_items o ≡ all_ranges reads (left words.old)) }
+    ensures { IfOk result (λ o. option_map vec_items o ≡ all_ranges P.reads (left words.old)) }
 {
     let mut list = Vec::new(heap);
     while let Some(word) = words.next() {
@@ -91,8 +91,8 @@ pub fn read_list<P: PointText>(
     heap: Global,
     word: &[u8],
 ) -> Result<Option<Vec<Range<P>>>, AllocError>
-    ensures value { IfOk result (λ o. option_map vec_items o ≡ list_of reads word.now) }
-    ensures text { IfOk result (λ o. ReadsList text folded proper word.now (option_map vec_items o)) }
+    ensures value { IfOk result (λ o. option_map vec_items o ≡ list_of P.reads word.now) }
+    ensures text { IfOk result (λ o. ReadsList P.text P.folded P.proper word.now (option_map vec_items o)) }
 {
     if is_none(word) {
         return Ok(Some(Vec::new(heap)));
@@ -106,8 +106,8 @@ fn push_range<P: PointText>(
     out: &mut String,
     range: Range<P>,
 ) -> Result<(), AllocError>
-    ensures value { OnOk result (string_bytes out.new ≡ string_bytes out.old ++ range_text text range) }
-    ensures proper { OnOk result (proper range.first × proper range.last) }
+    ensures value { OnOk result (string_bytes out.new ≡ string_bytes out.old ++ range_text P.text range) }
+    ensures proper { OnOk result (P.proper range.first × P.proper range.last) }
 {
     range.first.push_point(heap, out)?;
     out.push_str("-")?;
@@ -121,8 +121,8 @@ fn push_further<P: PointText>(
     out: &mut String,
     range: Range<P>,
 ) -> Result<(), AllocError>
-    ensures value { OnOk result (string_bytes out.new ≡ string_bytes out.old ++ (44 ∷ range_text text range)) }
-    ensures proper { OnOk result (proper range.first × proper range.last) }
+    ensures value { OnOk result (string_bytes out.new ≡ string_bytes out.old ++ (44 ∷ range_text P.text range)) }
+    ensures proper { OnOk result (P.proper range.first × P.proper range.last) }
 {
     out.push_str(",")?;
     push_range(heap, out, range)?;
@@ -135,8 +135,8 @@ fn push_tail<P: PointText>(
     out: &mut String,
     list: &[Range<P>],
 ) -> Result<(), AllocError>
-    ensures value { OnOk result (string_bytes out.new ≡ string_bytes out.old ++ tail_text text list.now) }
-    ensures proper { OnOk result (Fit proper list.now) }
+    ensures value { OnOk result (string_bytes out.new ≡ string_bytes out.old ++ tail_text P.text list.now) }
+    ensures proper { OnOk result (Fit P.proper list.now) }
 {
     for range in list {
         push_further(heap, out, *range)?;
@@ -151,8 +151,8 @@ fn push_ranges<P: PointText>(
     first: Range<P>,
     rest: &[Range<P>],
 ) -> Result<(), AllocError>
-    ensures value { OnOk result (string_bytes out.new ≡ string_bytes out.old ++ list_text text (first ∷ rest.now)) }
-    ensures back { OnOk result (list_of reads (list_text text (first ∷ rest.now)) ≡ Some (first ∷ rest.now)) }
+    ensures value { OnOk result (string_bytes out.new ≡ string_bytes out.old ++ list_text P.text (first ∷ rest.now)) }
+    ensures back { OnOk result (list_of P.reads (list_text P.text (first ∷ rest.now)) ≡ Some (first ∷ rest.now)) }
 {
     push_range(heap, out, first)?;
     push_tail(heap, out, rest)?;
@@ -165,8 +165,8 @@ pub fn push_list<P: PointText>(
     out: &mut String,
     list: &[Range<P>],
 ) -> Result<(), AllocError>
-    ensures value { OnOk result (string_bytes out.new ≡ string_bytes out.old ++ list_text text list.now) }
-    ensures back { OnOk result (list_of reads (list_text text list.now) ≡ Some list.now) }
+    ensures value { OnOk result (string_bytes out.new ≡ string_bytes out.old ++ list_text P.text list.now) }
+    ensures back { OnOk result (list_of P.reads (list_text P.text list.now) ≡ Some list.now) }
 {
     if list.is_empty() {
         out.push_str("none")?;

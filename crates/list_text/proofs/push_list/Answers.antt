@@ -1,4 +1,4 @@
-use Rattle.std.proofs.Common.{◌≡◌, ℕ, ◌-◌, ◌<◌, List, ◌∷◌, ◌++◌, length, take, drop, Some, string_bytes, ap, ◌∙◌, subst, rules}
+use Rattle.std.proofs.Common.{◌≡◌, ◌-◌, ◌<◌, ◌∷◌, ◌++◌, length, take, drop, Some, string_bytes, ap, ◌∙◌, subst, rules}
 use Rattle.list_text.specs.Lists.{list_of, list_text}
 use Rattle.list_text.proofs.Steps.{first_rest}
 use Rattle.list_text.proofs.push_list.Goals as goal

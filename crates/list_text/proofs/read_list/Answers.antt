@@ -1,7 +1,6 @@
-use Rattle.std.proofs.Common.{◌≡◌, Bool, cond, [], Some, vec_items, sym, ap, ◌∙◌}
+use Rattle.std.proofs.Common.{◌≡◌, Some, vec_items}
 use Rattle.std.proofs.lemmas.Result.{IfOk-weaker}
-use Rattle.pieces.specs.Marks.{pieces_of}
-use Rattle.list_text.specs.Lists.{all_ranges, list_of}
+use Rattle.list_text.specs.Lists.{list_of}
 use Rattle.list_text.proofs.Theorem.{reads_list}
 use Rattle.list_text.proofs.Steps.{none_is, ranges_are}
 use Rattle.list_text.proofs.read_list.Goals as goal
