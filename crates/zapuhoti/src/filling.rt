@@ -41,10 +41,10 @@ fn add_record(rt: &HostRuntime, line: &[u8], book: &mut Vec<u8>) -> Result<(), S
     }
     let mut words = Words::of(line);
     let kind = words.next()?;
-    if kind == b"digest" {
+    if kind == b"digest".as_slice() {
         return add_digest(rt, &mut words, book);
     }
-    if kind == b"verdict" {
+    if kind == b"verdict".as_slice() {
         return add_verdict(rt, &mut words, book);
     }
     Err(Stop::Line(Why::UnknownCall))

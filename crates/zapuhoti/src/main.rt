@@ -14,6 +14,7 @@ use filling::run_book;
 use judging::run_judge;
 use replaying::run_replay;
 use std::env;
+use std::process::ExitCode;
 
 const USAGE: &str = "zapuhoti: an offline validator of RPKI objects
 
@@ -44,24 +45,24 @@ fn misused(rt: &HostRuntime, what: &str) -> Result<(), Failure> {
 fn run_words(rt: &HostRuntime, words: &[String]) -> Result<(), Failure> {
     match words {
         [] => misused(rt, "a command is missing"),
-        [word] if *word == "--help" || *word == "-h" => {
-            print!(rt, "{USAGE}")?;
+        [word] if word.as_str() == "--help" || word.as_str() == "-h" => {
+            print!(rt; "{USAGE}")?;
             Ok(())
         },
-        [word, path] if *word == "dump" => run_dump(rt, path.as_str(), Detail::Cut),
-        [word, how, path] if *word == "dump" && *how == "--all" => run_dump(
+        [word, path] if word.as_str() == "dump" => run_dump(rt, path.as_str(), Detail::Cut),
+        [word, how, path] if word.as_str() == "dump" && how.as_str() == "--all" => run_dump(
             rt,
             path.as_str(),
             Detail::All,
         ),
-        [word, how, path] if *word == "dump" && *how == "--quiet" => run_dump(
+        [word, how, path] if word.as_str() == "dump" && how.as_str() == "--quiet" => run_dump(
             rt,
             path.as_str(),
             Detail::Count,
         ),
-        [word, path] if *word == "replay" => run_replay(rt, path.as_str()),
-        [word, list, out] if *word == "book" => run_book(rt, list.as_str(), out.as_str()),
-        [word, list, route, origin] if *word == "judge" => run_judge(
+        [word, path] if word.as_str() == "replay" => run_replay(rt, path.as_str()),
+        [word, list, out] if word.as_str() == "book" => run_book(rt, list.as_str(), out.as_str()),
+        [word, list, route, origin] if word.as_str() == "judge" => run_judge(
             rt,
             list.as_str(),
             route.as_str(),
@@ -81,13 +82,18 @@ fn run(rt: &HostRuntime) -> Result<(), Failure> {
     run_words(rt, words.as_slice())
 }
 
-fn main(rt: HostRuntime) -> Result<(), Failure> {
-    let ended = run(&rt);
-    if let Err(Failure::Memory) = &ended {
-        let _ = eprintln!(rt; "zapuhoti: out of memory");
+fn main(rt: HostRuntime) -> ExitCode {
+    let Err(failure) = run(&rt) else {
+        return ExitCode::SUCCESS;
+    };
+    match failure {
+        Failure::Told => {},
+        Failure::Memory => {
+            let _ = eprintln!(rt; "zapuhoti: out of memory");
+        },
+        Failure::Output => {
+            let _ = eprintln!(rt; "zapuhoti: cannot write");
+        },
     }
-    if let Err(Failure::Output) = &ended {
-        let _ = eprintln!(rt; "zapuhoti: cannot write");
-    }
-    ended
+    ExitCode::FAILURE
 }
