@@ -53,7 +53,7 @@ pub record Worked : Type 0 where
   pub bits_past : range_of (3 ∷ (3 ∷ (4 ∷ (10 ∷ (65 ∷ []))))) ≡ Err record { rule = Form; place = 0; layer = Element }
   pub form : number_of Form ≡ 1
   -- 300E0305020A0500040305030A050010 is 10.5.0.4 to 10.5.0.23
-  pub a-range :
+  pub a_range :
       range_of (48 ∷ (14 ∷ (3 ∷ (5 ∷ (2 ∷ (10 ∷ (5 ∷ (0 ∷ (4 ∷ (3 ∷ (5 ∷ (3 ∷ (10 ∷ (5 ∷ (0 ∷ (16 ∷ []))))))))))))))))
       ≡ Ok (from_to 168099844 168099863)
   -- 10.0.0.0/9 followed by 10.128.0.0/9 touches it: a fault at the second
