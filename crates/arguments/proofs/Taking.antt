@@ -1,10 +1,9 @@
 -- The next word of a line. Assumes nothing.
-use Rattle.std.proofs.Common.{◌≡◌, ℕ, ◌≤◌, List, [], ◌∷◌, length, Some, None, Ok, Err, Option, Result, sym, refl, ap, ◌∙◌, arith}
+use Rattle.std.proofs.Common.{◌≡◌, ℕ, List, [], ◌∷◌, length, Some, None, Ok, Err, Option, sym, refl, ap, ◌∙◌, arith}
 use Rattle.numeral.specs.Numbers.{number_of}
 use Rattle.pieces.specs.Marks.{take_piece}
 use Rattle.list_text.proofs.Steps.{taken_inv, taken_none}
-use Rattle.arguments.specs.declared.Why.{Why}
-use Rattle.arguments.specs.declared.Why.TheVariants.{EmptyWord, MissingWord, ExtraWord, NoNumber}
+use Rattle.arguments.specs.declared.Why.TheVariants.{EmptyWord, MissingWord, ExtraWord}
 use Rattle.arguments.specs.Words.{take_word, ended}
 use Rattle.arguments.specs.Arguments.{roomed, area_of}
 

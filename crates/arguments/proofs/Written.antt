@@ -1,5 +1,5 @@
 -- An argument is taken exactly where the words are its text. Assumes nothing.
-use Rattle.std.proofs.Common.{◌≡◌, ℕ, ◌%◌, ◌^◌, ◌<◌, ◌≤◌, Bool, true, false, cond, not, ◌&&◌, eqb, ◌⊎◌, List, [], ◌∷◌, ◌++◌, length, is_some, Some, None, Ok, Err, codes, decimal, Option, Result, sym, refl, ap, ◌∙◌, subst, inl, inr, arith}
+use Rattle.std.proofs.Common.{◌≡◌, ℕ, ◌%◌, ◌<◌, Bool, true, false, cond, ◌&&◌, eqb, List, [], ◌∷◌, ◌++◌, length, is_some, Some, None, Ok, Err, codes, decimal, Option, Result, sym, refl, ap, ◌∙◌, subst, inl, inr, arith}
 use Rattle.std.specs.Str.{bytes_eq}
 use Rattle.std.proofs.lemmas.Fmt.{decimal_nonempty}
 use Rattle.std.proofs.lemmas.Bool.{cases_Bool, eqb-false, ne_eqb, and_parts}
@@ -9,15 +9,15 @@ use Rattle.hex_text.proofs.Texts.{reads}
 use Rattle.numeral.specs.Numbers.{number_of}
 use Rattle.numeral.proofs.Reading.{of_inv, of_decimal}
 use Rattle.arguments.specs.declared.Why.{Why}
-use Rattle.arguments.specs.declared.Why.TheVariants.{EmptyWord, MissingWord, ExtraWord, NoOracle, NoKind, NoForm, NoList, NoNumber, OddDigits, NoDigit, EmptyPath}
+use Rattle.arguments.specs.declared.Why.TheVariants.{EmptyWord, MissingWord, NoOracle, NoKind, NoForm, NoList, NoNumber, OddDigits, NoDigit, EmptyPath}
 use Rattle.arguments.specs.declared.Kind.{Kind}
 use Rattle.arguments.specs.declared.Kind.TheVariants as kinds
 use Rattle.arguments.specs.declared.Form.{Form}
 use Rattle.arguments.specs.declared.Form.TheVariants as forms
-use Rattle.arguments.specs.Words.{take_word, ended}
+use Rattle.arguments.specs.Words.{take_word}
 use Rattle.arguments.specs.Arguments.{Said, digits, path, Source, scheme, book, and_then, stripped, digits_of, path_of, sort_of, octets_of, argument_of, source_of, oracle_of, kind_word, form_word, spelling, spelled_next, kind_of, form_of, is_list_of, list_word_of, roomed, area_of, area_words, LawfulArea, written, Lawful, LawfulSource, source_words}
 use Rattle.arguments.proofs.Prefixes.{stripped_inv}
-use Rattle.arguments.proofs.Taking.{take_some, area_some}
+use Rattle.arguments.proofs.Taking.{area_some}
 
 -- two answers that differ
 pub clash : {A B : Type 0} (x : A) (why : Why) → Err why ≡ Ok x → B
