@@ -1,11 +1,10 @@
 -- A word is read as a point exactly where it is the point's text. Assumes nothing.
-use Rattle.std.specs.Prelude.{◌≡◌, ℕ, ◌+◌, ◌-◌, ◌*◌, ◌/◌, ◌%◌, ◌^◌, ◌<◌, ◌≤◌, Bool, true, false, cond, not, ◌&&◌, ◌⊎◌, List, [], ◌∷◌, ◌++◌, map, length, Some, None, decimal, Option, ◌==◌, nat_eq, refl}
+use Rattle.std.specs.Prelude.{◌≡◌, ℕ, ◌+◌, ◌*◌, ◌/◌, ◌%◌, ◌^◌, ◌<◌, ◌≤◌, Bool, true, false, cond, not, ◌&&◌, ◌⊎◌, List, [], ◌∷◌, ◌++◌, map, length, Some, None, decimal, Option, ◌==◌, nat_eq, refl}
 use Rattle.std.proofs.Common.{sym, ap, subst, ◌∙◌, inl, inr, arith}
 use Rattle.std.specs.Char.{to_ascii_lowercase}
-use Rattle.std.specs.List.{AllByRecursion}
 use Rattle.std.proofs.lemmas.Fmt.{decimal_by_steps}
 use Rattle.std.proofs.lemmas.List.{length-map}
-use Rattle.std.proofs.lemmas.Bool.{cases_Bool, eqb-true, ne_eqb}
+use Rattle.std.proofs.lemmas.Bool.{ne_eqb}
 use Rattle.std.proofs.lemmas.Bool.Decides.{nat_tests}
 use Rattle.hex_text.specs.Digits.{nibble_of, paired, octet_of, digit_of, hex_text}
 use Rattle.hex_text.proofs.Texts.{octet_back, octet_inv}
@@ -14,11 +13,10 @@ use Rattle.numeral.proofs.Reading.{of_inv, of_decimal}
 use Rattle.pieces.specs.Marks.{pieces_of, joined, lacking, and_then, at_end}
 use Rattle.pieces.proofs.Splits.{joined_pieces, pieces_joined}
 use Rattle.points.specs.declared.V4.{V4}
-use Rattle.points.specs.declared.V6.{V6}
 use Rattle.points.specs.declared.Asn.{Asn}
-use Rattle.points.specs.Ranks.{v4_fits, v6_fits, asn_fits}
-use Rattle.point_text.specs.Texts.{v4_parts, v4_text, v4_from, v4_of, asn_text, asn_of, group_text, group_of, quad_parts, quad_from, v6_text, v6_from, v6_of}
-use Rattle.point_text.specs.Parts.{Parts, none_some, then_inv, end_inv, four_inv, four_read, four_map, lacking_parts, lacking_push, lacking_lower, pieces_lower}
+use Rattle.points.specs.Ranks.{v4_fits, asn_fits}
+use Rattle.point_text.specs.Texts.{v4_parts, v4_text, v4_from, v4_of, asn_text, asn_of, group_text, group_of}
+use Rattle.point_text.specs.Parts.{Parts, none_some, then_inv, end_inv, four_inv, four_read, lacking_parts, lacking_push}
 
 -- the digits of a number hold no character below them
 digit_lacks : (m n : ℕ) → m < 48 → lacking m ((48 + n) ∷ []) ≡ true

@@ -1,5 +1,5 @@
 -- IPv6 addresses: eight groups, in either case. Assumes nothing.
-use Rattle.std.specs.Prelude.{◌≡◌, ℕ, ◌+◌, ◌-◌, ◌*◌, ◌/◌, ◌%◌, ◌^◌, ◌<◌, ◌≤◌, Bool, true, false, ◌⊎◌, List, [], ◌∷◌, ◌++◌, map, Some, None, Option, nat_eq, refl}
+use Rattle.std.specs.Prelude.{◌≡◌, ℕ, ◌+◌, ◌*◌, ◌/◌, ◌%◌, ◌^◌, ◌<◌, true, false, List, [], ◌∷◌, ◌++◌, map, Some, None, Option, nat_eq, refl}
 use Rattle.std.proofs.Common.{sym, ap, subst, ◌∙◌, inl, inr, arith}
 use Rattle.std.specs.Char.{to_ascii_lowercase}
 use Rattle.pieces.specs.Marks.{pieces_of, joined, lacking, and_then, at_end}
@@ -7,7 +7,7 @@ use Rattle.pieces.proofs.Splits.{joined_pieces, pieces_joined}
 use Rattle.points.specs.declared.V6.{V6}
 use Rattle.points.specs.Ranks.{v6_fits}
 use Rattle.point_text.specs.Texts.{group_text, group_of, quad_parts, quad_from, v6_text, v6_from, v6_of}
-use Rattle.point_text.specs.Parts.{Parts, none_some, then_inv, end_inv, four_inv, four_read, four_map, lacking_parts, lacking_lower, pieces_lower}
+use Rattle.point_text.specs.Parts.{Parts, then_inv, end_inv, four_inv, four_read, four_map, lacking_parts, lacking_lower, pieces_lower}
 use Rattle.point_text.specs.Laws.{group_blind, group_inv, group_read, group_lacks}
 
 -- the groups of 64 bits, put together and taken apart

@@ -3,10 +3,10 @@
 // A `PointText` is a kind of points that has a text. `read_point` reads a word as a point, and `push_point` appends a point's text. What they promise
 // speaks of the text alone, so that code over `PointText` serves every kind: a word is read as a point exactly where it is the point's text, but for
 // the case of the digits of an IPv6 address, which are printed in lower case. Numbers have no zeros in front, and a number that is out of its kind,
-// as 256 in an address, is no point. It rests on `points` for the kinds, on `pieces`, `numeral` and `hex` for the parts of a text.
+// as 256 in an address, is no point. It rests on `points` for the kinds, on `pieces`, `numeral` and `hex_text` for the parts of a text.
 #![tactic(auto)]
 
-ghost use Rattle.std.specs.Prelude.{◌≡◌, ℕ, ◌<◌, ◌≤◌, true, List, ◌∷◌, ◌++◌, map, IfSome, Some, string_bytes, decimal, Option, OnOk};
+ghost use Rattle.std.specs.Prelude.{◌≡◌, ℕ, ◌<◌, ◌≤◌, true, List, ◌∷◌, ◌++◌, map, IfSome, Some, string_bytes, decimal, Option, OnOk, refl};
 ghost use Rattle.std.specs.Char.{to_ascii_lowercase};
 ghost use Rattle.numeral.specs.Numbers.{number_of};
 ghost use Rattle.pieces.specs.Marks.{lacking, beside, read_next};
@@ -14,7 +14,6 @@ ghost use Rattle.pieces.specs.Views.{left};
 ghost use Rattle.points.specs.Ranks.{v4_fits, v6_fits, asn_fits};
 ghost use Rattle.point_text.specs.Texts.{itself, v4_of, v4_text, asn_of, asn_text, group_of, group_text, quad_from, quad_text, v6_of, v6_text};
 ghost use Rattle.point_text.specs.Laws.{v4_read, v4_text_lem, asn_read, asn_text_lem};
-ghost use Rattle.std.proofs.Common.{rules};
 ghost use Rattle.point_text.specs.Wide.{v6_read, v6_text_lem, v6_blind};
 
 use hex_text::{octet, push_octets};
@@ -186,7 +185,7 @@ impl PointText for V4 {
 
     ghost read_text = { λ w x h. v4_text_lem w x h };
 
-    ghost blind = { Prim.search rules };
+    ghost blind = { λ w. refl };
 
     fn read_point(word: &[u8]) -> Option<V4> {
         read_v4(word)
@@ -234,7 +233,7 @@ impl PointText for Asn {
 
     ghost read_text = { λ w x h. asn_text_lem w x h };
 
-    ghost blind = { Prim.search rules };
+    ghost blind = { λ w. refl };
 
     fn read_point(word: &[u8]) -> Option<Asn> {
         let number = read_number(word, 4_294_967_295)?;
