@@ -1,5 +1,5 @@
 -- A line says a call exactly where it is that call's text. Assumes nothing.
-use Rattle.std.proofs.Common.{◌≡◌, ℕ, ◌+◌, ◌<◌, Bool, true, false, cond, not, ◌&&◌, eqb, ◌⊎◌, List, [], ◌∷◌, ◌++◌, length, get_or, drop, Some, None, Ok, Err, codes, Option, Result, sym, refl, ap, ◌∙◌, subst, inl, inr, append_assoc, arith}
+use Rattle.std.proofs.Common.{◌≡◌, ℕ, ◌+◌, ◌<◌, Bool, true, false, cond, not, ◌&&◌, eqb, List, [], ◌∷◌, ◌++◌, length, get_or, drop, Ok, Err, codes, Option, Result, sym, refl, ap, ◌∙◌, subst, inl, inr, append_assoc, arith}
 use Rattle.std.specs.List.{AllByRecursion}
 use Rattle.std.proofs.lemmas.List.{append-nil, at_drop_more}
 use Rattle.std.proofs.lemmas.Bool.{cases_Bool, eq-eqb, ne_eqb, not-true, not-false}
@@ -10,11 +10,11 @@ use Rattle.arguments.specs.declared.Why.TheVariants.{CarriageReturn, EmptyWord, 
 use Rattle.arguments.specs.declared.Kind.{Kind}
 use Rattle.arguments.specs.declared.Form.{Form}
 use Rattle.arguments.specs.Words.{words_of, spaced, take_word, ended}
-use Rattle.arguments.specs.Arguments.{Said, Source, scheme, book, and_then, argument_of, oracle_of, kind_word, form_word, kind_of, form_of, is_list_of, list_word_of, area_of, area_words, LawfulArea, written, Lawful, source_words}
+use Rattle.arguments.specs.Arguments.{Said, Source, scheme, book, and_then, argument_of, oracle_of, kind_word, form_word, kind_of, form_of, list_word_of, area_of, area_words, written, Lawful, source_words}
 use Rattle.arguments.proofs.Written.{clash, then_inv, WordsLeft, word_inv, argument_inv, argument_written, oracle_inv, oracle_written, spelling_inv, kind_inv, kind_written, form_inv, form_written, list_inv, list_written, area_inv, area_written}
 use Rattle.list_log.specs.declared.Name.{Name}
 use Rattle.list_log.specs.declared.Name.TheVariants.{Element as Element·name, Digest as Digest·name, Verdict as Verdict·name, Join as Join·name, Write as Write·name, Read as Read·name}
-use Rattle.list_log.specs.Lines.{Asked, element, digest, verdict, join, write, read, Told, nothing, call, verdict_of, spelt, calls, name_of, arguments_of, call_of, whole_of, silent, line_of, LawfulCall, call_words, CallLine, ReadsCalls, ElementLine, ReadsElements}
+use Rattle.list_log.specs.Lines.{Asked, element, digest, verdict, join, write, read, Told, nothing, call, spelt, calls, name_of, arguments_of, call_of, whole_of, silent, line_of, LawfulCall, call_words, CallLine, ReadsCalls, ElementLine, ReadsElements}
 
 -- what each call took: a clause for each
 abbrev Took : Name → WordsLeft → Asked × WordsLeft → Type 0
