@@ -34,7 +34,7 @@ fn refused(heap: Global, call: &str, rule: Rule) -> Result<String, AllocError>
 
 // The answer of a call that joined two lists to one.
 fn joined_line<P: PointText>(heap: Global, list: &[Range<P>]) -> Result<String, AllocError>
-    ensures { IfOk result (λ s. string_bytes s ≡ joined_line text list.now) }
+    ensures { IfOk result (λ s. string_bytes s ≡ joined_line P.text list.now) }
 {
     let mut line = String::from_str(heap, "join ok ")?;
     push_list(heap, &mut line, list)?;
@@ -49,7 +49,7 @@ fn joined_front<P: PointText>(
     count: usize,
 ) -> Result<String, AllocError>
     requires { count ≤ length area.now }
-    ensures { IfOk result (λ s. string_bytes s ≡ joined_line text (take count area.now)) }
+    ensures { IfOk result (λ s. string_bytes s ≡ joined_line P.text (take count area.now)) }
 {
     joined_line(heap, &area[0..count])
 }
@@ -61,7 +61,7 @@ pub fn join_answer<P: PointText>(
     other: &[Range<P>],
     area: &mut [Range<P>],
 ) -> Result<String, AllocError>
-    ensures { IfOk result (λ s. string_bytes s ≡ join_reply P.Point.rank text one.now other.now (length area.old)) }
+    ensures { IfOk result (λ s. string_bytes s ≡ join_reply P.Point.rank P.text one.now other.now (length area.old)) }
 {
     match join(one, other, area) {
         Ok(count) => joined_front(heap, area, count),
@@ -123,7 +123,7 @@ fn written<P: WrittenResource>(
     list: &[Range<P>],
     area: &mut [u8],
 ) -> Result<String, AllocError>
-    ensures { IfOk result (λ s. string_bytes s ≡ write_reply P.Point.rank text list.now (length area.old)) }
+    ensures { IfOk result (λ s. string_bytes s ≡ write_reply P.Point.rank P.text list.now (length area.old)) }
 {
     match write(list, area) {
         Ok(size) => written_line(heap, &area[0..size]),
@@ -148,7 +148,7 @@ pub fn write_answer<P: WrittenResource>(
     list: &[Range<P>],
     room: Option<u64>,
 ) -> Result<String, AllocError>
-    ensures { IfOk result (λ s. string_bytes s ≡ write_reply P.Point.rank text list.now (room_given room)) }
+    ensures { IfOk result (λ s. string_bytes s ≡ write_reply P.Point.rank P.text list.now (room_given room)) }
 {
     let mut area = [0u8; 10_244];
     let size = room_given(room);
