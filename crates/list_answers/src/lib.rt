@@ -3,7 +3,7 @@
 // `join_answer` joins two lists, `write_answer` writes one into an area, and `addresses_answer` and `asn_answer` read the value of a resource extension, in which a list and what is inherited may
 // both stand. Each makes its call and gives the answer with a newline: the text is a definition in specs/Replies.antt over the definition of the call's
 // result, and each function promises just that text. It rests on `ranges`, `list_writer` and `resources` for the calls,
-// on `list_text` for lists as text and on `hex` for octets.
+// on `list_text` for lists as text and on `hex_text` for octets.
 #![tactic(auto)]
 
 ghost use Rattle.std.specs.Prelude.{◌≡◌, ◌≤◌, ◌++◌, length, take, IfOk, string_bytes};
