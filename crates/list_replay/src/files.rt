@@ -60,7 +60,7 @@ pub fn read_log(rt: &HostRuntime, path: &str) -> Result<Vec<u8>, Failure> {
 // Prints a text and empties it, where it is long enough or the rest is wanted now.
 pub fn flush(rt: &HostRuntime, text: &mut String, now: bool) -> Result<(), Failure> {
     if now || text.len() > 65_536 {
-        print!(rt, "{text}")?;
+        print!(rt; "{text}")?;
         text.clear();
     }
     Ok(())

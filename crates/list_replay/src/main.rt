@@ -8,6 +8,7 @@ mod replaying;
 use files::Failure;
 use replaying::run_replay;
 use std::env;
+use std::process::ExitCode;
 
 // Says how to use the program.
 fn misused(rt: &HostRuntime) -> Result<(), Failure> {
@@ -30,13 +31,18 @@ fn run(rt: &HostRuntime) -> Result<(), Failure> {
     }
 }
 
-fn main(rt: HostRuntime) -> Result<(), Failure> {
-    let ended = run(&rt);
-    if let Err(Failure::Memory) = &ended {
-        let _ = eprintln!(rt; "list_replay: out of memory");
+fn main(rt: HostRuntime) -> ExitCode {
+    let Err(failure) = run(&rt) else {
+        return ExitCode::SUCCESS;
+    };
+    match failure {
+        Failure::Told => {},
+        Failure::Memory => {
+            let _ = eprintln!(rt; "list_replay: out of memory");
+        },
+        Failure::Output => {
+            let _ = eprintln!(rt; "list_replay: cannot write");
+        },
     }
-    if let Err(Failure::Output) = &ended {
-        let _ = eprintln!(rt; "list_replay: cannot write");
-    }
-    ended
+    ExitCode::FAILURE
 }
