@@ -23,7 +23,7 @@ use Rattle.arguments.proofs.Taking.{area_some}
 pub clash : {A B : Type 0} (x : A) (why : Why) → Err why ≡ Ok x → B
 clash x why e = let z : ◌≡◌ {A = ℕ} 0 1 = cc in absurd (omega arith)
 
--- what `digitsOf` and `pathOf` take
+-- what `digits_of` and `path_of` take
 digits_taken : (d : List ℕ) → is_some (unhex d) ≡ true → digits_of d ≡ Ok (digits d)
 digits_taken d h =
     let p : (eqb (length d % 2) 0 ≡ true) × (all_digits d ≡ true) = and_parts (eqb (length d % 2) 0) (all_digits d) (sym (reads d) ∙ h) in

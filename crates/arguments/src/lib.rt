@@ -5,7 +5,7 @@
 // oracle, a kind of points, a list of ranges of a kind, the kind of a value that is read, and at the end the room of an area, which may be left out.
 // Digits are even in number and each is one, a list reads as a list of its kind, and a number fits 64 bits, so that what is taken here can be decoded.
 // Each argument is what specs/Arguments.antt defines, and it is taken exactly where the words are its text. What is read is lent from the line, and
-// nothing is allocated. It rests on `pieces` for the words, on `hex` for digits, on `numeral` for numbers and on `list_text` for lists.
+// nothing is allocated. It rests on `pieces` for the words, on `hex_text` for digits, on `numeral` for numbers and on `list_text` for lists.
 #![tactic(auto)]
 
 ghost use Rattle.std.specs.Prelude.{◌≡◌, true, IfOk};

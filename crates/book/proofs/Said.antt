@@ -9,7 +9,7 @@ use Rattle.record.specs.Format.{Entry, record_of}
 use Rattle.record.proofs.Steps.{records_some, records_none}
 use Rattle.book.specs.Meaning.{digest_said, yes_said, first_digest, some_verdict, book_digest, book_verdict}
 
--- a test that decides whether two lists are equal is `sameBytes`
+-- a test that decides whether two lists are equal is `bytes_eq`
 pub same_test : (r : Bool) (xs ys : List ℕ) → Decides r (xs ≡ ys) → r ≡ bytes_eq xs ys
 same_test r xs ys h = same_from_decides r (bytes_eq xs ys) h (bytes_eq-Decides xs ys)
 

@@ -6,7 +6,7 @@
 // write.
 //
 // A further call is a variant of `Call` and of `Name`, an `if` in `read_name` and an arm in `read_call`, with its lines in specs/ (`Asked`, `spelt`,
-// `calls`, `argumentsOf`, `LawfulCall`, `call_words`, `asked`) and in proofs/Calls.antt (`arguments-inv`, `whole-written`, `words-call`, `loud-call`).
+// `calls`, `arguments_of`, `LawfulCall`, `call_words`, `asked`) and in proofs/Calls.antt (`arguments_inv`, `whole_written`, `words_call`, `loud_call`).
 // A further kind of value for `read` is a variant of `Form` in `arguments` alone.
 #![tactic(auto)]
 

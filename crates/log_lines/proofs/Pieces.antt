@@ -15,7 +15,7 @@ words_space c s e = ap (λ (b : Bool). cond b ([] ∷ words_of s) (lengthened c 
 words_other : (c : ℕ) (s : List ℕ) → eqb c 32 ≡ false → words_of (c ∷ s) ≡ lengthened c (words_of s)
 words_other c s e = ap (λ (b : Bool). cond b ([] ∷ words_of s) (lengthened c (words_of s))) e
 
--- a line begins with a word, which ends where `wordEnd` says
+-- a line begins with a word, which ends where `word_end` says
 pub words_first : (s : List ℕ) → words_of s ≡ take (word_end s) s ∷ words_past (word_end s) s
 words_first [] = refl
 words_first (c ∷ s) = elim (cases_Bool (eqb c 32)) [

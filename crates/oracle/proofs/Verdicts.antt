@@ -6,7 +6,7 @@ use Rattle.std.proofs.lemmas.Bool.{false≢true}
 use Rattle.oracle.specs.Scheme.{scheme_digest}
 use Rattle.oracle.specs.Meaning.{AlwaysNoIsNotTheScheme}
 
--- a test that decides whether two lists are equal is `sameBytes`
+-- a test that decides whether two lists are equal is `bytes_eq`
 pub same_test : (r : Bool) (xs ys zs : List ℕ) → Decides r (xs ≡ ys) → ys ≡ zs → r ≡ bytes_eq xs zs
 same_test r xs ys zs h e = let k = rw e at h in search (rules, bytes_eq-Decides)
 

@@ -13,7 +13,7 @@ module _ (m : ℕ) where
   pieces_other : (c : ℕ) (s : List ℕ) → eqb c m ≡ false → pieces_of m (c ∷ s) ≡ lengthened c (pieces_of m s)
   pieces_other c s e = ap (λ (b : Bool). cond b ([] ∷ pieces_of m s) (lengthened c (pieces_of m s))) e
 
-  -- a text begins with a piece, which ends where `pieceEnd` says
+  -- a text begins with a piece, which ends where `piece_end` says
   pub pieces_first : (s : List ℕ) → pieces_of m s ≡ take (piece_end m s) s ∷ pieces_past m (piece_end m s) s
   pieces_first [] = refl
   pieces_first (c ∷ s) = elim (cases_Bool (eqb c m)) [
