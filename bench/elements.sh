@@ -1,8 +1,11 @@
 #!/bin/sh
 # Walks every element of 16 MiB of small nested elements, beside openssl's asn1parse on the same input.
-# Run it in the repository after `rt check zapuhoti`. It proves nothing and is no part of the gate.
+# Run it in the repository after `(cd crates/zapuhoti && rt run -- dump ../../examples/ca1.cer)`, which proves and builds the
+# program. It proves nothing itself and is no part of the gate.
 set -e
 cd "$(dirname "$0")/.."
+program=crates/zapuhoti/out/zapuhoti
+mkdir -p target
 input=target/bench-elements.der
 python3 - "$input" <<'PY'
 import sys
@@ -27,8 +30,8 @@ for _ in range(7):
 print(f"{least * 1000:9.1f} ms")
 PY
 }
-echo "input: $(wc -c < $input) octets, $(target/bin/zapuhoti dump --quiet $input)"
-echo "zapuhoti dump --quiet           $(best target/bin/zapuhoti dump --quiet $input)   (reads, walks and checks every element)"
+echo "input: $(wc -c < $input) octets, $($program dump --quiet $input)"
+echo "zapuhoti dump --quiet           $(best $program dump --quiet $input)   (reads, walks and checks every element)"
 echo "openssl asn1parse -noout        $(best openssl asn1parse -inform DER -noout -in $input)   (reads the file; prints and walks nothing)"
 echo "openssl asn1parse               $(best openssl asn1parse -inform DER -in $input)   (walks and prints)"
-echo "zapuhoti dump                   $(best target/bin/zapuhoti dump $input)   (walks, checks and prints)"
+echo "zapuhoti dump                   $(best $program dump $input)   (walks, checks and prints)"

@@ -1,5 +1,5 @@
 #!/usr/bin/env python3
-"""Write a verdict book of 2,000 records and 16 MiB of arbitrary octets: python3 bench/make_book.py OUT"""
+"""Write a verdict book of 2,000 records and 16 MiB of arbitrary octets: python3 bench/book/make_book.py OUT"""
 
 import os
 import sys
