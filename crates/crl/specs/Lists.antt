@@ -6,8 +6,8 @@ use Rattle.fault.specs.declared.Rule.TheVariants.{Structure}
 use Rattle.fault.specs.declared.Layer.TheVariants as layer
 use Rattle.fault.specs.declared.Report.{Report}
 use Rattle.moment.specs.Calendar.{number_in}
-use Rattle.element.specs.declared.Part.{Part}
-use Rattle.element.specs.declared.Element.{Element}
+use Rattle.element.specs.declared.part.Part.{Part}
+use Rattle.element.specs.declared.part.Element.{Element}
 use Rattle.element.specs.Reading.{Seen, Octets, seen, octets_of}
 use Rattle.layout.specs.Expecting.{broken, then_read, next_of, expect_of, end_of, inside}
 use Rattle.fields.specs.Fields.{constant_of, sequence_of, time_of, whole_of}

@@ -6,8 +6,8 @@ use Rattle.fault.specs.declared.ElementFault.{ElementFault}
 use Rattle.content.specs.Tags.{kind_of}
 use Rattle.content.specs.Forms.{form_of}
 use Rattle.element.specs.declared.Header.{Header}
-use Rattle.element.specs.declared.Part.{Part}
-use Rattle.element.specs.declared.Element.{Element}
+use Rattle.element.specs.declared.part.Part.{Part}
+use Rattle.element.specs.declared.part.Element.{Element}
 
 -- the header of these sizes, where so many octets stand there
 abbrev pub whole_of : List ℕ → ℕ → ℕ → Result Header Breach

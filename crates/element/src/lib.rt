@@ -12,26 +12,15 @@ ghost use Rattle.element.specs.Lengths.{length_octets, header, encoded};
 ghost use Rattle.element.specs.Grammar.{Parsed, OneEncoding};
 ghost use Rattle.element.specs.Writing.{header_written, element_written, laid, ReadsBack};
 
+mod part;
+
+pub use part::{Element, Part};
+
 use content::check_form;
 use fault::{Breach, ElementFault, Rule};
 
 // The most octets that a content may have.
 pub const LONGEST: usize = 65_535;
-
-// Some octets of a file, and the offset at which they begin in it.
-#[derive(Clone, Copy)]
-pub struct Part<'a> {
-    pub octets: &'a [u8],
-    pub place: usize,
-}
-
-// An element: its tag, the offset of the tag, and its content.
-#[derive(Clone, Copy)]
-pub struct Element<'a> {
-    pub tag: u8,
-    pub place: usize,
-    pub content: Part<'a>,
-}
 
 // The octets that tag and length take, and how many the content has.
 #[derive(Clone, Copy)]
@@ -97,10 +86,8 @@ fn measure(s: &[u8]) -> Result<Header, Breach>
 
 // The first element of `input` and the octets after it, both parts of `input`.
 pub fn read<'a>(input: Part<'a>) -> Result<(Element<'a>, Part<'a>), ElementFault>
-    requires { Placed input }
     ensures value { answered result ≡ read_of input.entry.octets.now input.entry.place }
     ensures grammar { Parsed input.entry.octets.now input.entry.place (answered result) }
-    ensures placed { IfOk result (λ p. Placed p.0.content × Placed p.1) }
 {
     let s = input.octets;
     let place = input.place;
@@ -135,7 +122,6 @@ pub fn read<'a>(input: Part<'a>) -> Result<(Element<'a>, Part<'a>), ElementFault
 pub fn read_first<'a>(file: &'a [u8]) -> Result<(Element<'a>, Part<'a>), ElementFault>
     ensures value { answered result ≡ read_of file.now 0 }
     ensures grammar { Parsed file.now 0 (answered result) }
-    ensures placed { IfOk result (λ p. Placed p.0.content × Placed p.1) }
 {
     read(Part {
         octets: file,

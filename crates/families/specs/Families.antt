@@ -3,7 +3,7 @@ use Rattle.std.specs.Prelude.{ℕ, cond, ◌&&◌, List, length, Ok, Result, ◌
 use Rattle.fault.specs.declared.Rule.TheVariants.{Value}
 use Rattle.fault.specs.declared.Layer.{Layer}
 use Rattle.fault.specs.declared.Report.{Report}
-use Rattle.element.specs.declared.Part.{Part}
+use Rattle.element.specs.declared.part.Part.{Part}
 use Rattle.element.specs.Reading.{Octets, octets_of}
 use Rattle.layout.specs.Expecting.{broken, then_read, expect_of}
 

@@ -6,8 +6,8 @@ use Rattle.fault.specs.declared.Report.{Report}
 use Rattle.moment.specs.Times.{utc_of, generalized_of}
 use Rattle.moment.specs.Calendar.{number_in}
 use Rattle.moment.specs.declared.Moment.{Moment}
-use Rattle.element.specs.declared.Part.{Part}
-use Rattle.element.specs.declared.Element.{Element}
+use Rattle.element.specs.declared.part.Part.{Part}
+use Rattle.element.specs.declared.part.Element.{Element}
 use Rattle.element.specs.Reading.{Seen, Octets, seen, octets_of}
 use Rattle.layout.specs.Expecting.{broken, then_read, next_of, expect_of, inside}
 use Rattle.entries.specs.Numbers.{as_number}

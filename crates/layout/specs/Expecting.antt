@@ -6,8 +6,8 @@ use Rattle.fault.specs.declared.Layer.{Layer}
 use Rattle.fault.specs.declared.Report.{Report}
 use Rattle.fault.specs.declared.ElementFault.{ElementFault}
 use Rattle.fault.specs.Faults.{element_report}
-use Rattle.element.specs.declared.Element.{Element}
-use Rattle.element.specs.declared.Part.{Part}
+use Rattle.element.specs.declared.part.Element.{Element}
+use Rattle.element.specs.declared.part.Part.{Part}
 use Rattle.element.specs.Reading.{Seen, Octets, seen, octets_of, read_of}
 
 -- a result as a reader of definitions sees it: its value by a view, its fault by its report

@@ -8,7 +8,7 @@ use Rattle.file_faults.specs.declared.ContentFault.{ContentFault}
 use Rattle.file_faults.specs.declared.ContentFault.TheVariants.{Own}
 use Rattle.file_faults.specs.Reports.{content_report}
 use Rattle.moment.specs.Calendar.{number_in}
-use Rattle.element.specs.declared.Part.{Part}
+use Rattle.element.specs.declared.part.Part.{Part}
 use Rattle.element.specs.Reading.{Seen, Octets, seen, octets_of}
 use Rattle.layout.specs.Expecting.{broken, then_read, expect_of, end_of, inside}
 use Rattle.fields.specs.Fields.{number20_of, gtime_of, whole_bits_of}

@@ -11,7 +11,7 @@ use Rattle.content.specs.Values.{bits_of}
 use Rattle.prefixes.specs.Reading.{bit_count, low_end}
 use Rattle.entries.specs.Addresses.{then_some}
 use Rattle.entries.specs.Numbers.{as_number}
-use Rattle.element.specs.declared.Part.{Part}
+use Rattle.element.specs.declared.part.Part.{Part}
 use Rattle.element.specs.Reading.{Seen, Octets, octets_of}
 use Rattle.layout.specs.Expecting.{broken, then_read, expect_of, end_of, inside}
 use Rattle.layout.specs.Rows.{rows_of}

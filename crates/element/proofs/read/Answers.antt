@@ -9,7 +9,7 @@ returns-in-Err c =
     let s = c.args.input.octets.now in
     let at = c.args.input.place in
     let v = answer_header s at c.in-Err.breach c.in-Err.ensures.value in
-    record { value = v; grammar = parsed_refused s at _ v; placed = tt }
+    record { value = v; grammar = parsed_refused s at _ v }
 
 pub returns-in-Err-check_form : goal.returns-in-Err-check_form
 returns-in-Err-check_form c =
@@ -18,7 +18,7 @@ returns-in-Err-check_form c =
     let h = c.in-Ok.header in
     let i : take (h.octets + h.content - h.octets) (drop h.octets s) ≡ take h.content (drop h.octets s) = search rules in
     let v = answer-form s at h _ c.in-Err-check_form.breach c.in-Ok.ensures.value i c.in-Err-check_form.ensures.value in
-    record { value = v; grammar = parsed_refused s at _ v; placed = tt }
+    record { value = v; grammar = parsed_refused s at _ v }
 
 pub returns : goal.returns
 returns c =
@@ -29,4 +29,4 @@ returns c =
     let i : take (end - h.octets) (drop h.octets s) ≡ take h.content (drop h.octets s) = search rules in
     let j : take (length s - end) (drop end s) ≡ drop end s = search (rules, take_rest) in
     let v = answer-element s at h _ _ c.in-Ok.ensures.value i j c.in_default.ensures.value in
-    record { value = v; grammar = subst (Parsed s at) (sym v) (parsed s at c.in-Ok.ensures.octets); placed = search rules }
+    record { value = v; grammar = subst (Parsed s at) (sym v) (parsed s at c.in-Ok.ensures.octets) }
