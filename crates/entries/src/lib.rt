@@ -6,7 +6,7 @@
 
 ghost use Rattle.std.specs.Prelude.{◌≡◌, ◌^◌, ◌<◌, ◌≤◌, length, IfSome, IfOk, Result};
 ghost use Rattle.content.specs.Values.{bits_of};
-ghost use Rattle.prefixes.specs.Widths.{bits_in};
+ghost use Rattle.family.specs.Widths.{width};
 ghost use Rattle.fault.specs.declared.Layer.TheVariants.{Set};
 ghost use Rattle.fault.specs.Faults.{set_report, reported};
 ghost use Rattle.element.specs.Reading.{Seen, Placed, seen, octets_of};
@@ -23,7 +23,8 @@ use element::{Element, Part};
 use fault::{Rule, SetFault};
 use layout::{end, expect};
 use points::{Asn, Point, V4, V6};
-use prefixes::{Width, ends_in_one, high_end, is_prefix, low_end};
+use family::Family;
+use prefixes::{ends_in_one, high_end, is_prefix, low_end};
 use ranges::Range;
 
 // A kind of points that certificates list: how one entry is read.
@@ -37,38 +38,38 @@ pub trait Resource: Point {
 }
 
 // Both ends of a prefix.
-fn prefix_ends(content: &[u8], width: Width) -> Option<(u128, u128)>
-    ensures value { result ≡ then_some (bits_of content.now) (prefix_ends (bits_in width)) }
-    ensures bound { IfSome result (λ p. (p.0 < 2 ^ bits_in width) × (p.1 < 2 ^ bits_in width)) }
+fn prefix_ends(content: &[u8], family: Family) -> Option<(u128, u128)>
+    ensures value { result ≡ then_some (bits_of content.now) (prefix_ends (width family)) }
+    ensures bound { IfSome result (λ p. (p.0 < 2 ^ width family) × (p.1 < 2 ^ width family)) }
 {
     let bits = read_bit_string(content)?;
-    let low = low_end(bits.octets, bits.unused, width)?;
-    let high = high_end(bits.octets, bits.unused, width)?;
+    let low = low_end(bits.octets, bits.unused, family)?;
+    let high = high_end(bits.octets, bits.unused, family)?;
     Some((low, high))
 }
 
 // The first address of a range that is no prefix.
-fn low_half(content: &[u8], width: Width) -> Option<u128>
-    ensures value { result ≡ then_some (bits_of content.now) (low_half (bits_in width)) }
-    ensures bound { IfSome result (λ a. a < 2 ^ bits_in width) }
+fn low_half(content: &[u8], family: Family) -> Option<u128>
+    ensures value { result ≡ then_some (bits_of content.now) (low_half (width family)) }
+    ensures bound { IfSome result (λ a. a < 2 ^ width family) }
 {
     let bits = read_bit_string(content)?;
     if let Some(false) = ends_in_one(bits.octets, bits.unused) {
         return None;
     }
-    low_end(bits.octets, bits.unused, width)
+    low_end(bits.octets, bits.unused, family)
 }
 
 // The last address of a range that is no prefix.
-fn high_half(content: &[u8], width: Width) -> Option<u128>
-    ensures value { result ≡ then_some (bits_of content.now) (high_half (bits_in width)) }
-    ensures bound { IfSome result (λ a. a < 2 ^ bits_in width) }
+fn high_half(content: &[u8], family: Family) -> Option<u128>
+    ensures value { result ≡ then_some (bits_of content.now) (high_half (width family)) }
+    ensures bound { IfSome result (λ a. a < 2 ^ width family) }
 {
     let bits = read_bit_string(content)?;
     if let Some(true) = ends_in_one(bits.octets, bits.unused) {
         return None;
     }
-    high_end(bits.octets, bits.unused, width)
+    high_end(bits.octets, bits.unused, family)
 }
 
 // A rule of the set that is broken at a place.
@@ -79,44 +80,44 @@ fn broken(rule: Rule, place: usize) -> SetFault
 }
 
 // The first and the last address of a range, from its two BIT STRINGs, and the octets after them.
-fn halves<'a>(content: Part<'a>, width: Width) -> Result<(u128, u128, Part<'a>), SetFault>
+fn halves<'a>(content: Part<'a>, family: Family) -> Result<(u128, u128, Part<'a>), SetFault>
     requires { Placed content }
-    ensures value { told_by set_report (λ h. (h.0, h.1, octets_of h.2)) result ≡ halves_of (bits_in width) (octets_of content.entry) }
-    ensures bound { IfOk result (λ h. (h.0 < 2 ^ bits_in width) × (h.1 < 2 ^ bits_in width) × Placed h.2) }
+    ensures value { told_by set_report (λ h. (h.0, h.1, octets_of h.2)) result ≡ halves_of (width family) (octets_of content.entry) }
+    ensures bound { IfOk result (λ h. (h.0 < 2 ^ width family) × (h.1 < 2 ^ width family) × Placed h.2) }
 {
     let (low, rest) = expect::<SetFault>(content, 0x03)?;
-    let Some(first) = low_half(low.content.octets, width) else {
+    let Some(first) = low_half(low.content.octets, family) else {
         return Err(broken(Rule::Value, low.place));
     };
     let (high, rest) = expect::<SetFault>(rest, 0x03)?;
-    let Some(last) = high_half(high.content.octets, width) else {
+    let Some(last) = high_half(high.content.octets, family) else {
         return Err(broken(Rule::Value, high.place));
     };
-    if first >= last || is_prefix(first, last, width) {
+    if first >= last || is_prefix(first, last, family) {
         return Err(broken(Rule::Value, high.place));
     }
     Ok((first, last, rest))
 }
 
 // The first and the last address of a range, whose content is two BIT STRINGs and nothing more.
-fn address_pair(content: Part<'_>, width: Width) -> Result<(u128, u128), SetFault>
+fn address_pair(content: Part<'_>, family: Family) -> Result<(u128, u128), SetFault>
     requires { Placed content }
-    ensures value { reported set_report result ≡ pair_of (bits_in width) (octets_of content.entry) }
-    ensures bound { IfOk result (λ p. (p.0 < 2 ^ bits_in width) × (p.1 < 2 ^ bits_in width)) }
+    ensures value { reported set_report result ≡ pair_of (width family) (octets_of content.entry) }
+    ensures bound { IfOk result (λ p. (p.0 < 2 ^ width family) × (p.1 < 2 ^ width family)) }
 {
-    let (first, last, rest) = halves(content, width)?;
+    let (first, last, rest) = halves(content, family)?;
     end::<SetFault>(rest)?;
     Ok((first, last))
 }
 
 // The first and the last address of an entry: a prefix, or a range.
-fn address_entry(element: &Element<'_>, width: Width) -> Result<(u128, u128), SetFault>
+fn address_entry(element: &Element<'_>, family: Family) -> Result<(u128, u128), SetFault>
     requires { Placed element.now.content }
-    ensures value { reported set_report result ≡ address_entry (bits_in width) (seen element.now) }
-    ensures bound { IfOk result (λ p. (p.0 < 2 ^ bits_in width) × (p.1 < 2 ^ bits_in width)) }
+    ensures value { reported set_report result ≡ address_entry (width family) (seen element.now) }
+    ensures bound { IfOk result (λ p. (p.0 < 2 ^ width family) × (p.1 < 2 ^ width family)) }
 {
     if element.tag == 0x03 {
-        let Some(ends) = prefix_ends(element.content.octets, width) else {
+        let Some(ends) = prefix_ends(element.content.octets, family) else {
             return Err(broken(Rule::Value, element.place));
         };
         return Ok(ends);
@@ -124,7 +125,7 @@ fn address_entry(element: &Element<'_>, width: Width) -> Result<(u128, u128), Se
     if element.tag != 0x30 {
         return Err(broken(Rule::Structure, element.place));
     }
-    address_pair(element.content, width)
+    address_pair(element.content, family)
 }
 
 // 2 to the power of 64.
@@ -144,7 +145,7 @@ impl Resource for V4 {
     ghost entry = { v4_entry };
 
     fn read_entry(element: &Element<'_>) -> Result<Range<V4>, SetFault> {
-        let (first, last) = address_entry(element, Width::V4)?;
+        let (first, last) = address_entry(element, Family::Ipv4)?;
         Ok(Range {
             first: V4 { word: first as u32 },
             last: V4 { word: last as u32 },
@@ -156,7 +157,7 @@ impl Resource for V6 {
     ghost entry = { v6_entry };
 
     fn read_entry(element: &Element<'_>) -> Result<Range<V6>, SetFault> {
-        let (first, last) = address_entry(element, Width::V6)?;
+        let (first, last) = address_entry(element, Family::Ipv6)?;
         Ok(Range {
             first: v6(first),
             last: v6(last),

@@ -12,8 +12,8 @@ use Rattle.content.proofs.Decided.{bits_decides}
 use Rattle.element.specs.Lengths.{encoded}
 use Rattle.element.specs.Reading.{Seen, Octets, read_of}
 use Rattle.element.specs.Grammar.{Begins}
-use Rattle.prefixes.specs.declared.Width.{Width}
-use Rattle.prefixes.specs.Widths.{bits_in}
+use Rattle.family.specs.declared.Family.{Family}
+use Rattle.family.specs.Widths.{width}
 use Rattle.prefixes.specs.Reading.{BitString, bit_count, Readable, readable, low_of, high_of, low_end, high_end, last_bit, last_octet}
 use Rattle.prefixes.specs.Ranges.{shared_tail, one_prefix, OnePrefix}
 use Rattle.prefixes.specs.Theorems.{Octets as EachOctet}
@@ -133,9 +133,9 @@ same_bits w a b n e =
 strictly : (a z : ℕ) → a ≤ z → (a ≡ z → ⊥) → a < z
 strictly a z l n = omega arith
 
-module _ (v : Width) where
+module _ (v : Family) where
   abbrev pub wide : ℕ
-  wide = bits_in v
+  wide = width v
 
   -- the content of the BIT STRING of n bits
   abbrev pub content : ℕ → ℕ → List ℕ

@@ -1,6 +1,6 @@
 -- The laws of the two families of addresses. Assumes nothing.
 use Rattle.std.proofs.Common.{◌≡◌, ℕ, ◌+◌, ◌*◌, ◌/◌, ◌%◌, ◌^◌, ◌<◌, refl, ap, ◌∙◌, arith}
-use Rattle.prefixes.specs.declared.Width.TheVariants as width
+use Rattle.family.specs.declared.Family.TheVariants as family
 use Rattle.points.specs.declared.V6.{V6}
 use Rattle.points.specs.Ranks.{v4_rank, v4_fits, v6_rank, v6_fits}
 use Rattle.entries.specs.Addresses.{address_entry}
@@ -11,7 +11,7 @@ use Rattle.entry_text.proofs.Points.{laws}
 use Rattle.entry_text.proofs.Addresses.{address_laws}
 
 pub v4_laws : EntryLaws v4_rank v4_fits v4_entry v4_text
-v4_laws = laws (2 ^ 32) (address_entry 32) (address_text 32) v4_rank v4_fits v4_of (address_laws width.V4)
+v4_laws = laws (2 ^ 32) (address_entry 32) (address_text 32) v4_rank v4_fits v4_of (address_laws family.Ipv4)
     record { point_rank = λ x h. refl; rank_point = λ n h. refl; point_fits = λ n h. h; below = λ x h. h }
 
 -- the two halves of a number of 128 bits
@@ -36,5 +36,5 @@ below : (a b : ℕ) → a < 2 ^ 64 → b < 2 ^ 64 → a * 2 ^ 64 + b < 2 ^ 128
 below a b h k = omega arith
 
 pub v6_laws : EntryLaws v6_rank v6_fits v6_entry v6_text
-v6_laws = laws (2 ^ 128) (address_entry 128) (address_text 128) v6_rank v6_fits v6_of (address_laws width.V6)
+v6_laws = laws (2 ^ 128) (address_entry 128) (address_text 128) v6_rank v6_fits v6_of (address_laws family.Ipv6)
     record { point_rank = point_rank; rank_point = λ n h. rank_point n; point_fits = point_fits; below = λ x h. below x.high x.low h.0 h.1 }

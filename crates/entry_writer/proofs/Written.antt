@@ -5,8 +5,8 @@ use Rattle.prefixes.specs.Writing.{prefix_count, low_count, high_count, octets_f
 use Rattle.prefixes.proofs.Octets.{length_octets_lem, octet_get}
 use Rattle.entry_text.specs.Texts.{bit_text, halves_text, address_text, number_size, integer_text, number_text}
 use Rattle.entry_text.proofs.Elements.{length_short}
-use Rattle.prefixes.specs.declared.Width.{Width}
-use Rattle.prefixes.specs.Widths.{bits_in}
+use Rattle.family.specs.declared.Family.{Family}
+use Rattle.family.specs.Widths.{width}
 use Rattle.prefixes.specs.Ranges.{one_prefix}
 use Rattle.prefixes.proofs.Ends.{most}
 use Rattle.prefixes.proofs.Laws.{has_octets}
@@ -64,7 +64,7 @@ one_room first last at room e h = let s = one_size first last (length (integer_t
 
 -- ---- addresses
 
-pub string_size : (v : Width) (a n count : ℕ) → n ≤ bits_in v → count ≡ octets_for n → 3 + count ≡ length (bit_text (bits_in v) a n)
+pub string_size : (v : Family) (a n count : ℕ) → n ≤ width v → count ≡ octets_for n → 3 + count ≡ length (bit_text (width v) a n)
 unfolding bit_text
 string_size v a n count h e =
     let l = (has_octets v a n h).0 in
@@ -72,14 +72,14 @@ string_size v a n count h e =
     let k = length_short 3 (bits v a n) (omega arith) in
     omega arith
 
-pub count_most : (v : Width) (n count : ℕ) → n ≤ bits_in v → count ≡ octets_for n → count ≤ 16
+pub count_most : (v : Family) (n count : ℕ) → n ≤ width v → count ≡ octets_for n → count ≤ 16
 count_most v n count h e = let m = most v in omega arith
 
 pub string-written :
-    (v : Width) (a n count u at : ℕ) (before headed half after : List ℕ) → n ≤ bits_in v → count ≡ octets_for n → u ≡ unused_for n
-    → at + length (bit_text (bits_in v) a n) ≤ length before
-    → headed ≡ laid_at at (3 ∷ ((1 + count) ∷ [])) before → half ≡ set headed (at + 2) u → after ≡ laid_at (at + 3) (bits_of (bits_in v) a n) half
-    → (at + 3 + count ≡ at + length (bit_text (bits_in v) a n)) × (after ≡ laid_at at (bit_text (bits_in v) a n) before)
+    (v : Family) (a n count u at : ℕ) (before headed half after : List ℕ) → n ≤ width v → count ≡ octets_for n → u ≡ unused_for n
+    → at + length (bit_text (width v) a n) ≤ length before
+    → headed ≡ laid_at at (3 ∷ ((1 + count) ∷ [])) before → half ≡ set headed (at + 2) u → after ≡ laid_at (at + 3) (bits_of (width v) a n) half
+    → (at + 3 + count ≡ at + length (bit_text (width v) a n)) × (after ≡ laid_at at (bit_text (width v) a n) before)
 unfolding bit_text
 string-written v a n count u at before headed half after h e f room p q r =
     let l = (has_octets v a n h).0 in
@@ -88,29 +88,29 @@ string-written v a n count u at before headed half after h e f room p q r =
     let k : length headed ≡ length before = ap length p ∙ length_laid at (3 ∷ ((1 + count) ∷ [])) before (omega arith) in
     let x : half ≡ laid_at (at + 2) (u ∷ []) headed = q ∙ set_laid headed (at + 2) u (omega arith) in
     let three : at + 3 ≡ at + 2 + 1 = omega arith in
-    let y = laid-after (at + 2) (at + 3) (u ∷ []) (bits_of (bits_in v) a n) headed half after (omega arith) three x r in
-    let z : after ≡ laid_at (at + 2) (bits v a n) headed = y ∙ ap (λ (o : ℕ). laid_at (at + 2) (o ∷ bits_of (bits_in v) a n) headed) f in
+    let y = laid-after (at + 2) (at + 3) (u ∷ []) (bits_of (width v) a n) headed half after (omega arith) three x r in
+    let z : after ≡ laid_at (at + 2) (bits v a n) headed = y ∙ ap (λ (o : ℕ). laid_at (at + 2) (o ∷ bits_of (width v) a n) headed) f in
     let w = element-laid 3 (1 + count) at (bits v a n) before headed after (omega arith) (omega arith) room p z in
     (omega arith, w.1)
 
 pub string-room :
-    (v : Width) (a n count at room : ℕ) → n ≤ bits_in v → count ≡ octets_for n → at + length (bit_text (bits_in v) a n) ≤ room
+    (v : Family) (a n count at room : ℕ) → n ≤ width v → count ≡ octets_for n → at + length (bit_text (width v) a n) ≤ room
     → (1 + count < 128) × (at + 2 ≤ room) × (at + 2 < room) × (at + 3 + octets_for n ≤ room)
 string-room v a n count at room h e l =
     let m = count_most v n count h e in
     let s = string_size v a n count h e in
     (omega arith, omega arith, omega arith, omega arith)
 
-pub prefix_is : (v : Width) (a z n : ℕ) → one_prefix (bits_in v) a z ≡ true → n ≡ prefix_count (bits_in v) a z → address_text (bits_in v) a z ≡ bit_text (bits_in v) a n
+pub prefix_is : (v : Family) (a z n : ℕ) → one_prefix (width v) a z ≡ true → n ≡ prefix_count (width v) a z → address_text (width v) a z ≡ bit_text (width v) a n
 unfolding bit_text
 prefix_is v a z n e i = text_prefix v a z e ∙ ap (λ (x : ℕ). encoded 3 (bits v a x)) (sym i)
 
 pub range-text :
-    (v : Width) (a z n m : ℕ) → one_prefix (bits_in v) a z ≡ false → n ≡ low_count (bits_in v) a → m ≡ high_count (bits_in v) z
-    → PairText (address_text (bits_in v) a z) (bit_text (bits_in v) a n) (bit_text (bits_in v) z m)
+    (v : Family) (a z n m : ℕ) → one_prefix (width v) a z ≡ false → n ≡ low_count (width v) a → m ≡ high_count (width v) z
+    → PairText (address_text (width v) a z) (bit_text (width v) a n) (bit_text (width v) z m)
 unfolding halves_text
 range-text v a z n m e i j =
-    let w = bits_in v in
+    let w = width v in
     let p : PairText (address_text w a z) (bit_text w a (low_count w a)) (bit_text w z (high_count w z)) = record { is = text_range v a z e; short = halves_length v a z } in
     subst (λ (x : ℕ). PairText (address_text w a z) (bit_text w a x) (bit_text w z m)) (sym i)
     (subst (λ (x : ℕ). PairText (address_text w a z) (bit_text w a (low_count w a)) (bit_text w z x)) (sym j) p)

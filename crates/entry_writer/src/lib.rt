@@ -9,7 +9,7 @@
 
 ghost use Rattle.std.specs.Prelude.{◌≡◌, ℕ, ◌+◌, ◌*◌, ◌/◌, ◌%◌, ◌^◌, ◌<◌, ◌≤◌, false, List, [], ◌∷◌, length, ◌≢◌};
 ghost use Rattle.points.specs.Ranks.{v6_rank};
-ghost use Rattle.prefixes.specs.Widths.{bits_in};
+ghost use Rattle.family.specs.Widths.{width};
 ghost use Rattle.prefixes.specs.Ranges.{one_prefix};
 ghost use Rattle.prefixes.specs.Writing.{low_count, high_count, octets_for, octets_of, bits_of};
 ghost use Rattle.ranges.specs.declared.Range.{Range};
@@ -21,8 +21,9 @@ ghost use Rattle.entry_text.proofs.Families.{v4_laws, v6_laws};
 
 use entries::Resource;
 use points::{Asn, Point, V4, V6};
+use family::Family;
 use prefixes::{
-    Width, bit_count_high, bit_count_low, bit_count_prefix, is_prefix, octet_at, octet_count,
+    bit_count_high, bit_count_low, bit_count_prefix, is_prefix, octet_at, octet_count,
     unused,
 };
 use ranges::Range;
@@ -147,84 +148,84 @@ fn put_numbers(first: u32, last: u32, area: &mut [u8], at: usize) -> usize
 }
 
 // How many octets a BIT STRING of so many bits takes.
-fn bit_string_size(bits: u32, width: Width) -> usize
-    requires { bits ≤ bits_in width }
-    ensures value { (a : ℕ) → result ≡ length (bit_text (bits_in width) a bits) }
+fn bit_string_size(bits: u32, family: Family) -> usize
+    requires { bits ≤ width family }
+    ensures value { (a : ℕ) → result ≡ length (bit_text (width family) a bits) }
     ensures most { result ≤ 19 }
 {
     3 + octet_count(bits)
 }
 
 // Writes the octets of the first bits of an address at a place.
-fn put_bits(address: u128, bits: u32, width: Width, area: &mut [u8], at: usize)
-    requires { (bits ≤ bits_in width) × (at + octets_for bits ≤ length area.old) }
-    ensures { area.new ≡ laid_at at (bits_of (bits_in width) address bits) area.old }
+fn put_bits(address: u128, bits: u32, family: Family, area: &mut [u8], at: usize)
+    requires { (bits ≤ width family) × (at + octets_for bits ≤ length area.old) }
+    ensures { area.new ≡ laid_at at (bits_of (width family) address bits) area.old }
 {
     for i in 0..octet_count(bits) {
-        area[at + i] = octet_at(address, bits, i, width);
+        area[at + i] = octet_at(address, bits, i, family);
     }
 }
 
 // Writes the first bits of an address as a BIT STRING at a place, and answers the place after it.
-fn put_bit_string(address: u128, bits: u32, width: Width, area: &mut [u8], at: usize) -> usize
-    requires { (bits ≤ bits_in width) × (at + length (bit_text (bits_in width) address bits) ≤ length area.old) }
-    ensures end { result ≡ at + length (bit_text (bits_in width) address bits) }
-    ensures after { area.new ≡ laid_at at (bit_text (bits_in width) address bits) area.old }
+fn put_bit_string(address: u128, bits: u32, family: Family, area: &mut [u8], at: usize) -> usize
+    requires { (bits ≤ width family) × (at + length (bit_text (width family) address bits) ≤ length area.old) }
+    ensures end { result ≡ at + length (bit_text (width family) address bits) }
+    ensures after { area.new ≡ laid_at at (bit_text (width family) address bits) area.old }
 {
     let count = octet_count(bits);
     put_head(0x03, 1 + count, area, at);
     area[at + 2] = unused(bits);
-    put_bits(address, bits, width, area, at + 3);
+    put_bits(address, bits, family, area, at + 3);
     at + 3 + count
 }
 
 // How many bits the ends of a range that is no prefix are written with: the first address without its zeros at the end, and the
 // last without its ones at the end.
-fn end_bits(first: u128, last: u128, width: Width) -> (u32, u32)
-    ensures value { (result.0 ≡ low_count (bits_in width) first) × (result.1 ≡ high_count (bits_in width) last) }
-    ensures most { (result.0 ≤ bits_in width) × (result.1 ≤ bits_in width) }
+fn end_bits(first: u128, last: u128, family: Family) -> (u32, u32)
+    ensures value { (result.0 ≡ low_count (width family) first) × (result.1 ≡ high_count (width family) last) }
+    ensures most { (result.0 ≤ width family) × (result.1 ≤ width family) }
 {
-    let low = bit_count_low(first, width);
-    let high = bit_count_high(last, width);
+    let low = bit_count_low(first, family);
+    let high = bit_count_high(last, family);
     (low, high)
 }
 
 // How many octets the entry of the addresses from `first` to `last` has.
-fn addresses_size(first: u128, last: u128, width: Width) -> usize
-    ensures { result ≡ length (address_text (bits_in width) first last) }
+fn addresses_size(first: u128, last: u128, family: Family) -> usize
+    ensures { result ≡ length (address_text (width family) first last) }
 {
-    if is_prefix(first, last, width) {
-        return bit_string_size(bit_count_prefix(first, last, width), width);
+    if is_prefix(first, last, family) {
+        return bit_string_size(bit_count_prefix(first, last, family), family);
     }
-    let bits = end_bits(first, last, width);
-    2 + bit_string_size(bits.0, width) + bit_string_size(bits.1, width)
+    let bits = end_bits(first, last, family);
+    2 + bit_string_size(bits.0, family) + bit_string_size(bits.1, family)
 }
 
 // Writes a SEQUENCE of two BIT STRINGs, the ends of a range, at a place, and answers the place after it.
-fn put_range(first: u128, last: u128, width: Width, area: &mut [u8], at: usize) -> usize
-    requires range { one_prefix (bits_in width) first last ≡ false }
-    requires room { at + length (address_text (bits_in width) first last) ≤ length area.old }
-    ensures end { result ≡ at + length (address_text (bits_in width) first last) }
-    ensures after { area.new ≡ laid_at at (address_text (bits_in width) first last) area.old }
+fn put_range(first: u128, last: u128, family: Family, area: &mut [u8], at: usize) -> usize
+    requires range { one_prefix (width family) first last ≡ false }
+    requires room { at + length (address_text (width family) first last) ≤ length area.old }
+    ensures end { result ≡ at + length (address_text (width family) first last) }
+    ensures after { area.new ≡ laid_at at (address_text (width family) first last) area.old }
 {
-    let bits = end_bits(first, last, width);
-    let size = bit_string_size(bits.0, width) + bit_string_size(bits.1, width);
+    let bits = end_bits(first, last, family);
+    let size = bit_string_size(bits.0, family) + bit_string_size(bits.1, family);
     put_head(0x30, size, area, at);
-    let middle = put_bit_string(first, bits.0, width, area, at + 2);
-    put_bit_string(last, bits.1, width, area, middle)
+    let middle = put_bit_string(first, bits.0, family, area, at + 2);
+    put_bit_string(last, bits.1, family, area, middle)
 }
 
 // Writes the entry of the addresses from `first` to `last` at a place, and answers the place after it.
-fn put_addresses(first: u128, last: u128, width: Width, area: &mut [u8], at: usize) -> usize
-    requires { at + length (address_text (bits_in width) first last) ≤ length area.old }
-    ensures end { result ≡ at + length (address_text (bits_in width) first last) }
-    ensures after { area.new ≡ laid_at at (address_text (bits_in width) first last) area.old }
+fn put_addresses(first: u128, last: u128, family: Family, area: &mut [u8], at: usize) -> usize
+    requires { at + length (address_text (width family) first last) ≤ length area.old }
+    ensures end { result ≡ at + length (address_text (width family) first last) }
+    ensures after { area.new ≡ laid_at at (address_text (width family) first last) area.old }
 {
-    if is_prefix(first, last, width) {
-        let bits = bit_count_prefix(first, last, width);
-        return put_bit_string(first, bits, width, area, at);
+    if is_prefix(first, last, family) {
+        let bits = bit_count_prefix(first, last, family);
+        return put_bit_string(first, bits, family, area, at);
     }
-    put_range(first, last, width, area, at)
+    put_range(first, last, family, area, at)
 }
 
 // 2 to the power of 64.
@@ -268,7 +269,7 @@ impl WrittenResource for V4 {
         addresses_size(
             u128::from(range.first.word),
             u128::from(range.last.word),
-            Width::V4,
+            Family::Ipv4,
         )
     }
 
@@ -279,7 +280,7 @@ impl WrittenResource for V4 {
     {
         let first = u128::from(range.first.word);
         let last = u128::from(range.last.word);
-        put_addresses(first, last, Width::V4, area, at)
+        put_addresses(first, last, Family::Ipv4, area, at)
     }
 }
 
@@ -291,7 +292,7 @@ impl WrittenResource for V6 {
     fn entry_size(range: Range<V6>) -> usize
         ensures { result ≡ length (v6_text range) }
     {
-        addresses_size(v6_number(range.first), v6_number(range.last), Width::V6)
+        addresses_size(v6_number(range.first), v6_number(range.last), Family::Ipv6)
     }
 
     fn write_entry(range: Range<V6>, area: &mut [u8], at: usize) -> usize
@@ -301,6 +302,6 @@ impl WrittenResource for V6 {
     {
         let first = v6_number(range.first);
         let last = v6_number(range.last);
-        put_addresses(first, last, Width::V6, area, at)
+        put_addresses(first, last, Family::Ipv6, area, at)
     }
 }

@@ -8,9 +8,9 @@ use Rattle.std.proofs.lemmas.Nat.{pow_pos, shl-shr, shr_high, mod_low}
 use Rattle.std.proofs.lemmas.Bool.Decides.{nat_tests}
 use Rattle.std.proofs.lemmas.Bool.{cond-true}
 use Rattle.prefixes.specs.Reading.{BitString, is_bit_string, bit_count, bits_number, last_octet, Readable, readable, low_of, high_of, low_end, high_end, LowEnd, HighEnd}
-use Rattle.prefixes.specs.Widths.{bits_in}
-use Rattle.prefixes.specs.declared.Width.{Width}
-use Rattle.prefixes.specs.declared.Width.TheVariants.{V4, V6}
+use Rattle.family.specs.Widths.{width}
+use Rattle.family.specs.declared.Family.{Family}
+use Rattle.family.specs.declared.Family.TheVariants.{Ipv4, Ipv6}
 use Rattle.prefixes.proofs.Powers.{pow256, pow_width, mod256, multiple, block_end}
 
 -- ---- octets with zeros after them
@@ -176,14 +176,14 @@ high-answer w o u a k m h t f l p q =
     let s : a + m ≡ high_of w o u = omega arith in
     (ap Some s ∙ sym (cond-true (readable w o u) (Some (high_of w o u)) None (sym t)), subst (HighEnd w o u) (sym s) (high_stands w o u h r (subst (λ x. x < 2 ^ w) e l)))
 
-pub whole : (v : Width) → bits_in v % 8 ≡ 0
-whole V4 = refl
-whole V6 = refl
+pub whole : (v : Family) → width v % 8 ≡ 0
+whole Ipv4 = refl
+whole Ipv6 = refl
 
-pub most : (v : Width) → bits_in v ≤ 128
-most V4 = omega arith
-most V6 = omega arith
+pub most : (v : Family) → width v ≤ 128
+most Ipv4 = omega arith
+most Ipv6 = omega arith
 
-pub below128 : (v : Width) (a : ℕ) → a < 2 ^ bits_in v → a < 2 ^ 128
-below128 V4 a h = omega arith
-below128 V6 a h = h
+pub below128 : (v : Family) (a : ℕ) → a < 2 ^ width v → a < 2 ^ 128
+below128 Ipv4 a h = omega arith
+below128 Ipv6 a h = h

@@ -5,7 +5,7 @@ use Rattle.std.specs.Int.Digits.{number_from_digits}
 use Rattle.std.proofs.lemmas.Nat.{pow_pos, pow_below, shr_split, shr_below, shl-shr, mod_low, field_of}
 use Rattle.std.proofs.lemmas.List.{take_at, length-take-le, get_or-take}
 use Rattle.std.proofs.lemmas.Bool.{cases_order}
-use Rattle.prefixes.specs.Widths.{bits_in}
+use Rattle.family.specs.Widths.{width}
 use Rattle.prefixes.specs.Reading.{BitString, bit_count, bits_number, last_octet, Readable, low_of, high_of}
 use Rattle.prefixes.specs.Ranges.{zero_tail, one_tail, OnePrefix}
 use Rattle.prefixes.specs.Writing.{prefix_count, low_count, high_count, octets_for, unused_for, octets_of, bits_of}
@@ -42,7 +42,7 @@ masked w b n =
 pub has_octets : HasOctets
 unfolding bits_of
 has_octets v a n l =
-    let w = bits_in v in
+    let w = width v in
     let x = a - a % 2 ^ (w - n) in
     let xs = octets_of (w / 8) x in
     let e = length_octets_lem (w / 8) x in
@@ -112,14 +112,14 @@ module _ (w a n : ℕ) (h : w % 8 ≡ 0) (l : n ≤ w) (s : a < 2 ^ w) (z : a % 
       }
 
 pub reads_back : ReadsBack
-reads_back v a n s l z = back (bits_in v) a n (whole v) l s z
+reads_back v a n s l z = back (width v) a n (whole v) l s z
 
 readable_back : (w a n : ℕ) → n ≤ w → ReadBack w a n → Readable w (bits_of w a n) (unused_for n)
 readable_back w a n l r = (r.bit_string, omega (arith, r.count))
 
 pub prefix_reads_back : PrefixReadsBack
 prefix_reads_back v a b s p =
-    let w = bits_in v in
+    let w = width v in
     let n = prefix_count w a b in
     let e = shared_is w a b p in
     let l : n ≤ w = omega arith in
@@ -130,7 +130,7 @@ prefix_reads_back v a b s p =
 
 pub range_reads_back : RangeReadsBack
 range_reads_back v a s =
-    let w = bits_in v in
+    let w = width v in
     let n = low_count w a in
     let x = (low_count_lem w a (zero_tail w a) n refl refl).1 in
     let r = reads_back v a n s x.most x.ends in
@@ -183,10 +183,10 @@ module _ (w : ℕ) (o : List ℕ) (u : ℕ) (h : w % 8 ≡ 0) (r : Readable w o 
   one_prefix_lem = (w - bit_count o u, omega arith, low_ends, omega (arith, pow_pos (w - bit_count o u)))
 
 pub one_encoding : OneEncoding
-one_encoding v o u q r = (written_again (bits_in v) o u (whole v) r q, count_unused (bits_in v) o u (whole v) r)
+one_encoding v o u q r = (written_again (width v) o u (whole v) r q, count_unused (width v) o u (whole v) r)
 
 pub is_one_prefix : IsOnePrefix
-is_one_prefix v o u r = one_prefix_lem (bits_in v) o u (whole v) r
+is_one_prefix v o u r = one_prefix_lem (width v) o u (whole v) r
 
 same_power : (x y : ℕ) → 2 ^ x ≡ 2 ^ y → x ≡ y
 same_power x y e =
@@ -200,7 +200,7 @@ same_power x y e =
 
 pub one_bit_string : OneBitString
 one_bit_string v o p u t qo qp ro rp e f =
-    let w = bits_in v in
+    let w = width v in
     let x = bit_count o u in
     let y = bit_count p t in
     let g : 2 ^ (w - x) ≡ 2 ^ (w - y) = omega (arith, pow_pos (w - x), pow_pos (w - y)) in

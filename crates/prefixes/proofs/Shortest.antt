@@ -6,7 +6,7 @@ use Rattle.std.specs.Int.Digits.{number_from_digits}
 use Rattle.std.proofs.lemmas.Nat.{pow_pos, shl-shr, mod_low, mod-pow-add, field_of}
 use Rattle.std.proofs.lemmas.Bool.{cases_lt, cond-true, cond-false, eq-eqb, ne_eqb}
 use Rattle.std.proofs.lemmas.Bool.Decides.{nat_tests}
-use Rattle.prefixes.specs.Widths.{bits_in}
+use Rattle.family.specs.Widths.{width}
 use Rattle.prefixes.specs.Reading.{bit_count, bits_number, last_octet, Readable, low_of, high_of, last_bit}
 use Rattle.prefixes.specs.Theorems.{Shortest, FewestBits}
 use Rattle.prefixes.proofs.Ends.{number_mod, low_bits, whole}
@@ -115,4 +115,4 @@ module _ (w : ℕ) (o : List ℕ) (u : ℕ) (h : w % 8 ≡ 0) (r : Readable w o 
       }
 
 pub fewest_bits : FewestBits
-fewest_bits v o u r = shortest (bits_in v) o u (whole v) r
+fewest_bits v o u r = shortest (width v) o u (whole v) r

@@ -1,4 +1,3 @@
-pub mod Widths
 pub mod Reading
 pub mod Ranges
 pub mod Writing

@@ -1,7 +1,7 @@
 -- What reading and writing are to each other. Assumes nothing.
 use Rattle.std.specs.Prelude.{◌≡◌, ℕ, ◌+◌, ◌-◌, ◌%◌, ◌^◌, ◌<◌, ◌≤◌, true, false, List, length, Some, ◌≢◌, slice_index}
-use Rattle.prefixes.specs.declared.Width.{Width}
-use Rattle.prefixes.specs.Widths.{bits_in}
+use Rattle.family.specs.declared.Family.{Family}
+use Rattle.family.specs.Widths.{width}
 use Rattle.prefixes.specs.Reading.{BitString, bit_count, Readable, low_of, high_of, last_bit}
 use Rattle.prefixes.specs.Ranges.{OnePrefix}
 use Rattle.prefixes.specs.Writing.{prefix_count, low_count, high_count, octets_for, unused_for, bits_of}
@@ -12,7 +12,7 @@ Octets o = (i : ℕ) → i < length o → slice_index o i < 256
 
 -- What is written for n bits are as many octets as n bits fill.
 abbrev pub HasOctets : Type 0
-HasOctets = (v : Width) (a n : ℕ) → n ≤ bits_in v → (length (bits_of (bits_in v) a n) ≡ octets_for n) × Octets (bits_of (bits_in v) a n)
+HasOctets = (v : Family) (a n : ℕ) → n ≤ width v → (length (bits_of (width v) a n) ≡ octets_for n) × Octets (bits_of (width v) a n)
 
 -- The first n bits of the address a, as they are written: a bit string of n bits, which is read as a and as a with ones
 -- for the bits after these.
@@ -24,7 +24,7 @@ pub record ReadBack (w a n : ℕ) : Type 0 where
 
 -- An address whose bits after the first n are zeros, written with n bits, is read back.
 abbrev pub ReadsBack : Type 0
-ReadsBack = (v : Width) (a n : ℕ) → a < 2 ^ bits_in v → n ≤ bits_in v → a % 2 ^ (bits_in v - n) ≡ 0 → ReadBack (bits_in v) a n
+ReadsBack = (v : Family) (a n : ℕ) → a < 2 ^ width v → n ≤ width v → a % 2 ^ (width v - n) ≡ 0 → ReadBack (width v) a n
 
 -- A range that is one prefix, as it is written: a bit string that is read as its two ends.
 pub record PrefixBack (w a b : ℕ) : Type 0 where
@@ -33,7 +33,7 @@ pub record PrefixBack (w a b : ℕ) : Type 0 where
   pub high : high_of w (bits_of w a (prefix_count w a b)) (unused_for (prefix_count w a b)) ≡ b
 
 abbrev pub PrefixReadsBack : Type 0
-PrefixReadsBack = (v : Width) (a b : ℕ) → a < 2 ^ bits_in v → OnePrefix (bits_in v) a b → PrefixBack (bits_in v) a b
+PrefixReadsBack = (v : Family) (a b : ℕ) → a < 2 ^ width v → OnePrefix (width v) a b → PrefixBack (width v) a b
 
 -- An address as the low and as the high end of a range: each is written as a bit string that is read back.
 pub record RangeBack (w a : ℕ) : Type 0 where
@@ -43,23 +43,23 @@ pub record RangeBack (w a : ℕ) : Type 0 where
   pub high : high_of w (bits_of w a (high_count w a)) (unused_for (high_count w a)) ≡ a
 
 abbrev pub RangeReadsBack : Type 0
-RangeReadsBack = (v : Width) (a : ℕ) → a < 2 ^ bits_in v → RangeBack (bits_in v) a
+RangeReadsBack = (v : Family) (a : ℕ) → a < 2 ^ width v → RangeBack (width v) a
 
 -- A bit string is the one that is written for its low end and its count of bits.
 abbrev pub OneEncoding : Type 0
 OneEncoding =
-    (v : Width) (o : List ℕ) (u : ℕ) → Octets o → Readable (bits_in v) o u
-    → (bits_of (bits_in v) (low_of (bits_in v) o) (bit_count o u) ≡ o) × (unused_for (bit_count o u) ≡ u)
+    (v : Family) (o : List ℕ) (u : ℕ) → Octets o → Readable (width v) o u
+    → (bits_of (width v) (low_of (width v) o) (bit_count o u) ≡ o) × (unused_for (bit_count o u) ≡ u)
 
 -- No two bit strings stand for the same range.
 abbrev pub OneBitString : Type 0
 OneBitString =
-    (v : Width) (o p : List ℕ) (u t : ℕ) → Octets o → Octets p → Readable (bits_in v) o u → Readable (bits_in v) p t
-    → low_of (bits_in v) o ≡ low_of (bits_in v) p → high_of (bits_in v) o u ≡ high_of (bits_in v) p t → (o ≡ p) × (u ≡ t)
+    (v : Family) (o p : List ℕ) (u t : ℕ) → Octets o → Octets p → Readable (width v) o u → Readable (width v) p t
+    → low_of (width v) o ≡ low_of (width v) p → high_of (width v) o u ≡ high_of (width v) p t → (o ≡ p) × (u ≡ t)
 
 -- What a bit string stands for is one prefix.
 abbrev pub IsOnePrefix : Type 0
-IsOnePrefix = (v : Width) (o : List ℕ) (u : ℕ) → Readable (bits_in v) o u → OnePrefix (bits_in v) (low_of (bits_in v) o) (high_of (bits_in v) o u)
+IsOnePrefix = (v : Family) (o : List ℕ) (u : ℕ) → Readable (width v) o u → OnePrefix (width v) (low_of (width v) o) (high_of (width v) o u)
 
 -- A bit string that does not end in a zero has the fewest bits that its low end can be written with, and one that does not
 -- end in a one the fewest for its high end (RFC 3779, 2.2.3.9); and no other bit strings have. One without bits ends in
@@ -71,4 +71,4 @@ pub record Shortest (w : ℕ) (o : List ℕ) (u : ℕ) : Type 0 where
   pub high_only : bit_count o u ≡ high_count w (high_of w o u) → last_bit o u ≢ Some true
 
 abbrev pub FewestBits : Type 0
-FewestBits = (v : Width) (o : List ℕ) (u : ℕ) → Readable (bits_in v) o u → Shortest (bits_in v) o u
+FewestBits = (v : Family) (o : List ℕ) (u : ℕ) → Readable (width v) o u → Shortest (width v) o u

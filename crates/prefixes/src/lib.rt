@@ -11,32 +11,13 @@
 #![tactic(auto)]
 
 ghost use Rattle.std.specs.Prelude.{◌≡◌, ◌+◌, ◌-◌, ◌*◌, ◌/◌, ◌%◌, ◌^◌, ◌<◌, ◌≤◌, true, length, IfSome, Decides, MatchOption, ◌==◌, slice_index};
-ghost use Rattle.prefixes.specs.Widths.{bits_in};
+ghost use Rattle.family.specs.Widths.{width};
 ghost use Rattle.prefixes.specs.Reading.{is_bit_string, readable, Readable, low_of, low_end, high_end, LowEnd, HighEnd, last_bit, LastBit};
 ghost use Rattle.prefixes.specs.Ranges.{zero_tail, one_tail, shared_tail, one_prefix, OnePrefix};
 ghost use Rattle.prefixes.specs.Writing.{prefix_count, low_count, high_count, BeforeZeros, BeforeOnes, octets_for, unused_for, bits_of};
 ghost use Rattle.prefixes.specs.Theorems.{HasOctets, ReadsBack, PrefixReadsBack, RangeReadsBack, OneEncoding, OneBitString, IsOnePrefix, FewestBits};
 
-// The kind of an address.
-#[derive(Clone, Copy, PartialEq, Eq, Debug)]
-pub enum Width {
-    V4,
-    V6,
-}
-
-impl Width {
-    // How many bits an address has.
-    pub fn bits(self) -> u32
-        ensures value { result ≡ bits_in self }
-        ensures whole { result % 8 ≡ 0 }
-        ensures most { result ≤ 128 }
-    {
-        match self {
-            Width::V4 => 32,
-            Width::V6 => 128,
-        }
-    }
-}
+use family::Family;
 
 // Whether octets and a count of unused bits are a bit string.
 fn is_bit_string(octets: &[u8], unused: u8) -> bool
@@ -52,19 +33,19 @@ fn is_bit_string(octets: &[u8], unused: u8) -> bool
 }
 
 // Whether they are a bit string of no more bits than an address has.
-fn is_readable(octets: &[u8], unused: u8, width: Width) -> bool
-    ensures { result ≡ readable (bits_in width) octets.now unused }
+fn is_readable(octets: &[u8], unused: u8, family: Family) -> bool
+    ensures { result ≡ readable (width family) octets.now unused }
 {
-    is_bit_string(octets, unused) && octets.len() <= (width.bits() / 8) as usize
+    is_bit_string(octets, unused) && octets.len() <= usize::from(family.width() / 8)
 }
 
 // The octets, and then zeros up to the width, as one number.
-fn padded(octets: &[u8], width: Width) -> u128
-    ensures value { length octets.now ≤ bits_in width / 8 → result ≡ low_of (bits_in width) octets.now }
-    ensures bound { result < 2 ^ bits_in width }
+fn padded(octets: &[u8], family: Family) -> u128
+    ensures value { length octets.now ≤ width family / 8 → result ≡ low_of (width family) octets.now }
+    ensures bound { result < 2 ^ width family }
 {
     let mut address: u128 = 0;
-    for i in 0..(width.bits() / 8) as usize {
+    for i in 0..usize::from(family.width() / 8) {
         let octet = if i < octets.len() { octets[i] } else { 0 };
         address = address * 256 + u128::from(octet);
     }
@@ -84,29 +65,29 @@ fn ones(count: u32) -> u128
 }
 
 // The address that begins with the bits, and has zeros after them.
-pub fn low_end(octets: &[u8], unused: u8, width: Width) -> Option<u128>
-    ensures value { result ≡ low_end (bits_in width) octets.now unused }
-    ensures relation { MatchOption result (Readable (bits_in width) octets.now unused → ⊥) (λ a. LowEnd (bits_in width) octets.now unused a) }
-    ensures bound { IfSome result (λ a. a < 2 ^ bits_in width) }
+pub fn low_end(octets: &[u8], unused: u8, family: Family) -> Option<u128>
+    ensures value { result ≡ low_end (width family) octets.now unused }
+    ensures relation { MatchOption result (Readable (width family) octets.now unused → ⊥) (λ a. LowEnd (width family) octets.now unused a) }
+    ensures bound { IfSome result (λ a. a < 2 ^ width family) }
 {
-    if is_readable(octets, unused, width) {
-        Some(padded(octets, width))
+    if is_readable(octets, unused, family) {
+        Some(padded(octets, family))
     } else {
         None
     }
 }
 
 // The address that begins with the bits, and has ones after them.
-pub fn high_end(octets: &[u8], unused: u8, width: Width) -> Option<u128>
-    ensures value { result ≡ high_end (bits_in width) octets.now unused }
-    ensures relation { MatchOption result (Readable (bits_in width) octets.now unused → ⊥) (λ a. HighEnd (bits_in width) octets.now unused a) }
-    ensures bound { IfSome result (λ a. a < 2 ^ bits_in width) }
+pub fn high_end(octets: &[u8], unused: u8, family: Family) -> Option<u128>
+    ensures value { result ≡ high_end (width family) octets.now unused }
+    ensures relation { MatchOption result (Readable (width family) octets.now unused → ⊥) (λ a. HighEnd (width family) octets.now unused a) }
+    ensures bound { IfSome result (λ a. a < 2 ^ width family) }
 {
-    if !is_readable(octets, unused, width) {
+    if !is_readable(octets, unused, family) {
         return None;
     }
-    let rest = width.bits() - 8 * octets.len() as u32 + u32::from(unused);
-    Some(padded(octets, width) + ones(rest))
+    let rest = u32::from(family.width()) - 8 * octets.len() as u32 + u32::from(unused);
+    Some(padded(octets, family) + ones(rest))
 }
 
 // Whether the last bit of a bit string is one, and none where it has no bit.
@@ -122,19 +103,19 @@ pub fn ends_in_one(octets: &[u8], unused: u8) -> Option<bool>
 }
 
 // How many bits at the end of an address are zeros.
-fn zero_tail(address: u128, width: Width) -> u32
-    ensures value { result ≡ zero_tail (bits_in width) address }
-    ensures most { result ≤ bits_in width }
+fn zero_tail(address: u128, family: Family) -> u32
+    ensures value { result ≡ zero_tail (width family) address }
+    ensures most { result ≤ width family }
 {
-    address.trailing_zeros().min(width.bits())
+    address.trailing_zeros().min(u32::from(family.width()))
 }
 
 // How many bits at the end of an address are ones.
-fn one_tail(address: u128, width: Width) -> u32
-    ensures value { result ≡ one_tail (bits_in width) address }
-    ensures most { result ≤ bits_in width }
+fn one_tail(address: u128, family: Family) -> u32
+    ensures value { result ≡ one_tail (width family) address }
+    ensures most { result ≤ width family }
 {
-    address.trailing_ones().min(width.bits())
+    address.trailing_ones().min(u32::from(family.width()))
 }
 
 // An address without its `count` last bits.
@@ -145,11 +126,11 @@ fn above(address: u128, count: u32) -> u128
 }
 
 // How many bits at the end are zeros in the first address and ones in the last.
-fn shared_tail(first: u128, last: u128, width: Width) -> u32
-    ensures value { result ≡ shared_tail (bits_in width) first last }
-    ensures most { result ≤ bits_in width }
+fn shared_tail(first: u128, last: u128, family: Family) -> u32
+    ensures value { result ≡ shared_tail (width family) first last }
+    ensures most { result ≤ width family }
 {
-    zero_tail(first, width).min(one_tail(last, width))
+    zero_tail(first, family).min(one_tail(last, family))
 }
 
 // Whether two addresses agree in all but their `count` last bits.
@@ -160,35 +141,35 @@ fn agree(first: u128, last: u128, count: u32) -> bool
 }
 
 // Whether a range of addresses is one prefix: the addresses that begin with the same bits.
-pub fn is_prefix(first: u128, last: u128, width: Width) -> bool
-    ensures value { result ≡ one_prefix (bits_in width) first last }
-    ensures relation { Decides result (OnePrefix (bits_in width) first last) }
+pub fn is_prefix(first: u128, last: u128, family: Family) -> bool
+    ensures value { result ≡ one_prefix (width family) first last }
+    ensures relation { Decides result (OnePrefix (width family) first last) }
 {
-    agree(first, last, shared_tail(first, last, width))
+    agree(first, last, shared_tail(first, last, family))
 }
 
 // How many bits a range that is one prefix is written with: those that all its addresses begin with.
-pub fn bit_count_prefix(first: u128, last: u128, width: Width) -> u32
-    ensures value { result ≡ prefix_count (bits_in width) first last }
-    ensures most { result ≤ bits_in width }
+pub fn bit_count_prefix(first: u128, last: u128, family: Family) -> u32
+    ensures value { result ≡ prefix_count (width family) first last }
+    ensures most { result ≤ width family }
 {
-    width.bits() - shared_tail(first, last, width)
+    u32::from(family.width()) - shared_tail(first, last, family)
 }
 
 // How many bits the low end of a range is written with: those before its zeros at the end.
-pub fn bit_count_low(first: u128, width: Width) -> u32
-    ensures value { result ≡ low_count (bits_in width) first }
-    ensures relation { BeforeZeros (bits_in width) first result }
+pub fn bit_count_low(first: u128, family: Family) -> u32
+    ensures value { result ≡ low_count (width family) first }
+    ensures relation { BeforeZeros (width family) first result }
 {
-    width.bits() - zero_tail(first, width)
+    u32::from(family.width()) - zero_tail(first, family)
 }
 
 // How many bits the high end of a range is written with: those before its ones at the end.
-pub fn bit_count_high(last: u128, width: Width) -> u32
-    ensures value { result ≡ high_count (bits_in width) last }
-    ensures relation { BeforeOnes (bits_in width) last result }
+pub fn bit_count_high(last: u128, family: Family) -> u32
+    ensures value { result ≡ high_count (width family) last }
+    ensures relation { BeforeOnes (width family) last result }
 {
-    width.bits() - one_tail(last, width)
+    u32::from(family.width()) - one_tail(last, family)
 }
 
 // How many octets a bit string of so many bits has.
@@ -217,10 +198,10 @@ fn cleared(address: u128, count: u32) -> u128
 }
 
 // The octet at the place `i` of the bit string of the first `bits` bits of an address, and 0 past its last.
-pub fn octet_at(address: u128, bits: u32, i: usize, width: Width) -> u8
-    ensures { result ≡ slice_index (bits_of (bits_in width) address bits) i }
+pub fn octet_at(address: u128, bits: u32, i: usize, family: Family) -> u8
+    ensures { result ≡ slice_index (bits_of (width family) address bits) i }
 {
-    let size = width.bits();
+    let size = u32::from(family.width());
     let count = bits.min(size);
     if i >= octet_count(count) {
         return 0;

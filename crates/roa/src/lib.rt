@@ -10,7 +10,6 @@ ghost use Rattle.fault.specs.Faults.{reported};
 ghost use Rattle.fault.specs.declared.Layer.TheVariants.{Content as ContentLayerOf};
 ghost use Rattle.file_faults.specs.Reports.{content_report};
 ghost use Rattle.payload.specs.Order.{width};
-ghost use Rattle.prefixes.specs.Widths.{bits_in};
 ghost use Rattle.prefixes.specs.Reading.{bit_count};
 ghost use Rattle.element.specs.Reading.{Placed, seen, octets_of};
 ghost use Rattle.layout.specs.Expecting.{told_by};
@@ -25,7 +24,7 @@ use fault::Rule;
 use file_faults::ContentFault;
 use layout::{end, expect};
 use payload::{Family, Prefix};
-use prefixes::{Width, low_end};
+use prefixes::low_end;
 
 // The most rows of a family.
 pub const FAMILY_ROWS: usize = 256;
@@ -54,16 +53,6 @@ fn broken(rule: Rule, place: usize) -> ContentFault
     ContentFault::Own { rule, place }
 }
 
-// How wide the addresses of a family are.
-fn width_of(family: Family) -> Width
-    ensures { bits_in result ≡ width family }
-{
-    match family {
-        Family::Ipv4 => Width::V4,
-        Family::Ipv6 => Width::V6,
-    }
-}
-
 // The number of an address as the first bits of 128.
 fn top(family: Family, address: u128) -> u128
     requires { address < 2 ^ width family }
@@ -89,7 +78,7 @@ fn prefix_in(content: &[u8], family: Family) -> Option<Prefix>
     ensures { result ≡ prefix_of family content.now }
 {
     let bits = read_bit_string(content)?;
-    let low = low_end(bits.octets, bits.unused, width_of(family))?;
+    let low = low_end(bits.octets, bits.unused, family)?;
     Some(Prefix {
         family,
         address: top(family, low),

@@ -6,12 +6,12 @@ pub put_bit_string-requires : goal.put_bit_string-requires
 put_bit_string-requires c = (
   c.bit_count_prefix-bits.ensures.most,
   room_as _ _ c.args.at (length c.args.area.now)
-      (prefix_is c.args.width c.args.first c.args.last c.bit_count_prefix-bits.result (sym c.if-is_prefix.ensures.value) c.bit_count_prefix-bits.ensures.value) c.requires,
+      (prefix_is c.args.family c.args.first c.args.last c.bit_count_prefix-bits.result (sym c.if-is_prefix.ensures.value) c.bit_count_prefix-bits.ensures.value) c.requires,
 )
 
 pub returns-then-is_prefix : goal.returns-then-is_prefix
 returns-then-is_prefix c =
     let w = written_as _ _ c.args.at c.put_bit_string.result c.args.area.now c.put_bit_string.new.area
-    (prefix_is c.args.width c.args.first c.args.last c.bit_count_prefix-bits.result (sym c.if-is_prefix.ensures.value) c.bit_count_prefix-bits.ensures.value)
+    (prefix_is c.args.family c.args.first c.args.last c.bit_count_prefix-bits.result (sym c.if-is_prefix.ensures.value) c.bit_count_prefix-bits.ensures.value)
     c.put_bit_string.ensures.end c.put_bit_string.ensures.after in
     record { end = w.0; after = w.1 }

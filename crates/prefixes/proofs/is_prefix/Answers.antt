@@ -1,12 +1,12 @@
 use Rattle.std.proofs.lemmas.Bool.Decides.{Decides-at}
-use Rattle.prefixes.specs.Widths.{bits_in}
+use Rattle.family.specs.Widths.{width}
 use Rattle.prefixes.specs.Ranges.{one_prefix}
 use Rattle.prefixes.proofs.Tails.{prefix_answer, prefix_decides}
 use Rattle.prefixes.proofs.is_prefix.Goals as goal
 
 pub returns : goal.returns
 returns c =
-    let w = bits_in c.args.width in
+    let w = width c.args.family in
     let a = c.args.first in
     let b = c.args.last in
     let r = c.agree.result in

@@ -1,7 +1,8 @@
 -- One octet after another, and zeros after the last; sixteen octets fit.
-use Rattle.std.proofs.Common.{◌≡◌, ◌<◌, ◌≤◌, get_or, sym, ◌∙◌, arith}
+use Rattle.std.specs.Int.Digits.{number_from_digits}
+use Rattle.std.proofs.Common.{◌≡◌, ◌<◌, ◌≤◌, ◌++◌, take, replicate, subst, get_or, sym, ◌∙◌, arith}
 use Rattle.std.proofs.lemmas.List.{get_or_past}
-use Rattle.prefixes.specs.Widths.{bits_in}
+use Rattle.family.specs.Widths.{width}
 use Rattle.prefixes.proofs.Powers.{below_all, below_more}
 use Rattle.prefixes.proofs.Ends.{pad-more, pad-done}
 use Rattle.prefixes.proofs.padded.Goals as goal
@@ -20,13 +21,13 @@ small c = omega (arith, here c, c.type_inv.octets c.loop-i.i)
 pub overflow_mul-address : goal.overflow_mul-address
 overflow_mul-address c =
     let i = c.loop-i.i in
-    let l : i ≤ 15 = omega (arith, c.loop-i-test.true, c.bits.ensures.most) in
+    let l : i ≤ 15 = omega (arith, c.loop-i-test.true, c.width.ensures.most) in
     omega (arith, below_all c.loop-i.address i 15 c.loop-i.invariant.1 l)
 
 pub overflow_add-address : goal.overflow_add-address
 overflow_add-address c =
     let i = c.loop-i.i in
-    let l : i ≤ 15 = omega (arith, c.loop-i-test.true, c.bits.ensures.most) in
+    let l : i ≤ 15 = omega (arith, c.loop-i-test.true, c.width.ensures.most) in
     omega (arith, below_all c.loop-i.address i 15 c.loop-i.invariant.1 l, small c)
 
 pub loop-i-preserved : goal.loop-i-preserved
@@ -39,6 +40,6 @@ loop-i-preserved c =
 pub returns : goal.returns
 returns c =
     let v = c.loop-i in
-    let b = c.bits in
-    let r = pad-done (bits_in c.args.width) b.result c.args.octets.now v.address v.i b.ensures.value b.ensures.whole (omega arith) v.invariant.0 v.invariant.1 in
+    let b = c.width in
+    let r = pad-done (width c.args.family) b.result c.args.octets.now v.address v.i b.ensures.value b.ensures.whole (omega arith) (subst (λ n. v.address ≡ number_from_digits 256 (take v.i (c.args.octets.now ++ replicate n 0))) c.from-i-end.ensures v.invariant.0) v.invariant.1 in
     record { value = r.0; bound = r.1 }

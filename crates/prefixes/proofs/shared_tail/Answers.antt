@@ -1,4 +1,4 @@
-use Rattle.prefixes.specs.Widths.{bits_in}
+use Rattle.family.specs.Widths.{width}
 use Rattle.prefixes.proofs.Tails.{shared-answer}
 use Rattle.prefixes.proofs.shared_tail.Goals as goal
 
@@ -7,6 +7,6 @@ returns c =
     let z = c.zero_tail in
     let o = c.one_tail in
     let r =
-    shared-answer (bits_in c.args.width) c.args.first c.args.last z.result o.result c.min.result
+    shared-answer (width c.args.family) c.args.first c.args.last z.result o.result c.min.result
     z.ensures.value o.ensures.value z.ensures.most c.min.ensures in
     record { value = r.0; most = r.1 }
