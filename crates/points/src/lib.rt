@@ -7,8 +7,8 @@
 #![tactic(auto)]
 
 ghost use Rattle.std.specs.Prelude.{◌≡◌, ℕ, ◌+◌, ◌-◌, ◌^◌, ◌<◌, ◌≤◌, Decides, refl};
-ghost use Rattle.points.specs.Ranks.{v4_rank, v4_fits, v6_rank, v6_fits, asn_rank, asn_fits};
-ghost use Rattle.std.proofs.Common.{arith, rules, inl, inr};
+ghost use Rattle.points.specs.Ranks.{v4_rank, v4_fits, v6_rank, v6_fits, v6_of, asn_rank, asn_fits};
+ghost use Rattle.std.proofs.Common.{arith, ap, ◌∙◌, inl, inr};
 ghost use Rattle.std.proofs.lemmas.Bool.{cases_eq};
 
 // A kind of points. `fits` holds of every value that code can have, and `rank` numbers those in their order.
@@ -19,7 +19,8 @@ pub trait Point: Copy {
 
     ghost fits: { Self → Type 0 };
 
-    // Whether the point is the other one or stands before it.
+    // Whether the point is the other one or stands before it. Each kind answers `self <= other`: a body here would not know that
+    // its points fit, and without that their order is not that of their numbers.
     fn at_most(self, other: Self) -> bool
         ensures order { Decides result (rank self ≤ rank other) }
         ensures fit { fits self × fits other };
@@ -45,7 +46,7 @@ pub trait Point: Copy {
 }
 
 // An IPv4 address.
-#[derive(Clone, Copy, PartialEq, Eq, Debug)]
+#[derive(Clone, Copy, PartialEq, Eq, PartialOrd, Ord, Debug)]
 pub struct V4 {
     pub word: u32,
 }
@@ -57,18 +58,18 @@ impl Point for V4 {
 
     ghost fits = { v4_fits };
 
-    ghost last_point = { Prim.search rules };
+    ghost last_point = { λ x f. omega arith };
 
-    ghost one_point = { Prim.search rules };
+    ghost one_point = { λ x y f g e. ap (λ (n : ℕ). let t : Self = record { word = n } in t) e };
 
     ghost next_point = { λ x f h. (record { word = x.word + 1 }, omega arith, refl) };
 
     fn at_most(self, other: V4) -> bool {
-        self.word <= other.word
+        self <= other
     }
 
     fn touches(self, other: V4) -> bool {
-        other.word <= self.word || other.word - self.word == 1
+        other.word.saturating_sub(self.word) <= 1
     }
 
     fn first() -> V4 {
@@ -81,10 +82,31 @@ impl Point for V4 {
 }
 
 // An IPv6 address: its upper and its lower 64 bits.
-#[derive(Clone, Copy, PartialEq, Eq, Debug)]
+#[derive(Clone, Copy, PartialEq, Eq, PartialOrd, Ord, Debug)]
 pub struct V6 {
     pub high: u64,
     pub low: u64,
+}
+
+// The address that is a number of 128 bits.
+impl From<u128> for V6 {
+    ghost from_gives = { λ n a. a ≡ v6_of n };
+
+    fn from(number: u128) -> V6 {
+        V6 {
+            high: (number >> 64) as u64,
+            low: (number % (1 << 64)) as u64,
+        }
+    }
+}
+
+// An address as one number.
+impl From<V6> for u128 {
+    ghost from_gives = { λ a n. n ≡ v6_rank a };
+
+    fn from(address: V6) -> u128 {
+        (u128::from(address.high) << 64) + u128::from(address.low)
+    }
 }
 
 impl Point for V6 {
@@ -94,9 +116,12 @@ impl Point for V6 {
 
     ghost fits = { v6_fits };
 
-    ghost last_point = { Prim.search rules };
+    ghost last_point = { λ x f. omega arith };
 
-    ghost one_point = { Prim.search rules };
+    ghost one_point = { λ x y f g e.
+        let h : x.high ≡ y.high = omega arith in
+        let l : x.low ≡ y.low = omega arith in
+        ap (λ (n : ℕ). let t : Self = record { high = n; low = x.low } in t) h ∙ ap (λ (n : ℕ). let t : Self = record { high = y.high; low = n } in t) l };
 
     // the lower half goes up by one, or falls to 0 where it carries
     ghost next_point = { λ x f h.
@@ -106,17 +131,11 @@ impl Point for V6 {
         ] };
 
     fn at_most(self, other: V6) -> bool {
-        self.high < other.high || (self.high == other.high && self.low <= other.low)
+        self <= other
     }
 
     fn touches(self, other: V6) -> bool {
-        if other.high < self.high {
-            return true;
-        }
-        if other.high == self.high {
-            return other.low <= self.low || other.low - self.low == 1;
-        }
-        other.high - self.high == 1 && other.low == 0 && self.low == u64::MAX
+        u128::from(other).saturating_sub(u128::from(self)) <= 1
     }
 
     fn first() -> V6 {
@@ -131,8 +150,8 @@ impl Point for V6 {
     }
 }
 
-// An AS number.
-#[derive(Clone, Copy, PartialEq, Eq, Debug)]
+// An AS number: a word as an IPv4 address is, but a kind of its own. One type for both would be no plainer: each call is one line.
+#[derive(Clone, Copy, PartialEq, Eq, PartialOrd, Ord, Debug)]
 pub struct Asn {
     pub number: u32,
 }
@@ -144,18 +163,18 @@ impl Point for Asn {
 
     ghost fits = { asn_fits };
 
-    ghost last_point = { Prim.search rules };
+    ghost last_point = { λ x f. omega arith };
 
-    ghost one_point = { Prim.search rules };
+    ghost one_point = { λ x y f g e. ap (λ (n : ℕ). let t : Self = record { number = n } in t) e };
 
     ghost next_point = { λ x f h. (record { number = x.number + 1 }, omega arith, refl) };
 
     fn at_most(self, other: Asn) -> bool {
-        self.number <= other.number
+        self <= other
     }
 
     fn touches(self, other: Asn) -> bool {
-        other.number <= self.number || other.number - self.number == 1
+        other.number.saturating_sub(self.number) <= 1
     }
 
     fn first() -> Asn {
