@@ -3,10 +3,10 @@ use Rattle.std.proofs.Common.{◌≡◌, ℕ, ◌-◌, ◌%◌, ◌^◌, ◌<◌
 use Rattle.std.specs.List.{AllByRecursion}
 use Rattle.std.proofs.lemmas.List.{append_assoc, append_cancel_left}
 use Rattle.std.proofs.lemmas.Bool.{and_parts, leb-true, eqb-true}
-use Rattle.payload.specs.declared.Family.{Family}
-use Rattle.payload.specs.declared.Family.TheVariants.{Ipv4, Ipv6}
+use Rattle.family.specs.declared.Family.{Family}
+use Rattle.family.specs.declared.Family.TheVariants.{Ipv4, Ipv6}
 use Rattle.payload.specs.declared.Payload.{Payload}
-use Rattle.payload.specs.Order.{width}
+use Rattle.family.specs.Widths.{width}
 use Rattle.payload.specs.Laws.{Sized}
 use Rattle.listing.specs.Texts.{address_text, line_text, lines_text, head_text}
 use Rattle.listing.specs.Laws.{Lawful, TextTells}

@@ -5,7 +5,8 @@ use Rattle.payload.specs.declared.Payload.{Payload}
 use Rattle.payload.specs.declared.Prefix.{Prefix}
 use Rattle.payload.specs.declared.list.PayloadList.{PayloadList}
 use Rattle.payload.specs.Lists.{held, room}
-use Rattle.payload.specs.Order.{width, lawful, rank}
+use Rattle.family.specs.Widths.{width}
+use Rattle.payload.specs.Order.{lawful, rank}
 use Rattle.listing.specs.Texts.{line_text, head_text}
 use Rattle.route_text.specs.Pieces.{then_some, beside, after_word, number_of, prefix_of}
 use Rattle.listing_reader.specs.declared.Why.{Why}

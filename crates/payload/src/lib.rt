@@ -9,26 +9,20 @@
 // whether every prefix of the list is known to be lawful: both let a caller look at few payloads in place of all.
 // That the list is in order stands in its type, so no call asks anything of its caller.
 // specs/Order.antt and specs/Lists.antt have what each call promises, and specs/Laws.antt what the order is worth:
-// payloads have one list. The crate rests on `std` alone.
+// payloads have one list. The crate rests on `family` for the families of addresses.
 #![tactic(auto)]
 
 ghost use Rattle.std.specs.Prelude.{◌≡◌, ◌+◌, ◌-◌, ◌/◌, ◌%◌, ◌^◌, ◌<◌, ◌≤◌, true, Decides};
 ghost use Rattle.std.specs.Ordering.{MatchOrdering};
-ghost use Rattle.payload.specs.Order.{rank, width, lawful, Small};
+ghost use Rattle.payload.specs.Order.{rank, lawful, Small};
 ghost use Rattle.payload.specs.Laws.{Ordered, InsertedRises, OneList};
 
 use std::cmp::Ordering;
 
 mod list;
 
+pub use family::Family;
 pub use list::{Inserted, PayloadList};
-
-// The family of an address.
-#[derive(Clone, Copy, PartialEq, Eq, Debug)]
-pub enum Family {
-    Ipv4,
-    Ipv6,
-}
 
 // A prefix. The address is its bits from the highest down, so that an IPv4 address stands in the first 32 of the
 // 128 bits, and both families are one case.
@@ -45,18 +39,6 @@ pub struct Payload {
     pub asn: u32,
     pub prefix: Prefix,
     pub max: u8,
-}
-
-impl Family {
-    // How many bits an address of the family has.
-    pub fn width(self) -> u8
-        ensures { result ≡ width self }
-    {
-        match self {
-            Family::Ipv4 => 32,
-            Family::Ipv6 => 128,
-        }
-    }
 }
 
 impl Prefix {

@@ -2,7 +2,7 @@
 use Rattle.std.proofs.Common.{◌≡◌, ℕ, ◌+◌, ◌-◌, ◌<◌, ◌≤◌, List, [], ◌∷◌, ◌++◌, length, take, drop, set, Ok, Err, Result, sym, ap, ◌∙◌, arith}
 use Rattle.std.proofs.lemmas.List.{take_more_set, length-take-le, drop-drop}
 use Rattle.fault.specs.declared.Report.{Report}
-use Rattle.payload.specs.declared.Family.{Family}
+use Rattle.family.specs.declared.Family.{Family}
 use Rattle.element.specs.Reading.{Seen}
 use Rattle.layout.specs.Expecting.{then_read}
 use Rattle.roa.specs.declared.RoaRow.{RoaRow}

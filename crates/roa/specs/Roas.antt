@@ -3,8 +3,8 @@ use Rattle.std.specs.Prelude.{ℕ, cond, List, [], length, take, Ok, Result, ◌
 use Rattle.fault.specs.declared.Rule.TheVariants.{Structure}
 use Rattle.fault.specs.declared.Layer.TheVariants.{Content}
 use Rattle.fault.specs.declared.Report.{Report}
-use Rattle.payload.specs.declared.Family.{Family}
-use Rattle.payload.specs.declared.Family.TheVariants.{Ipv4, Ipv6}
+use Rattle.family.specs.declared.Family.{Family}
+use Rattle.family.specs.declared.Family.TheVariants.{Ipv4, Ipv6}
 use Rattle.element.specs.Reading.{Seen, Octets}
 use Rattle.layout.specs.Expecting.{broken, then_read, expect_of, end_of, inside}
 use Rattle.layout.specs.Rows.{rows_of}

@@ -3,10 +3,10 @@ use Rattle.std.specs.Prelude.{ℕ, ◌-◌, ◌*◌, ◌^◌, cond, ◌&&◌, Li
 use Rattle.fault.specs.declared.Rule.TheVariants.{Structure, Count}
 use Rattle.fault.specs.declared.Layer.TheVariants.{Content}
 use Rattle.fault.specs.declared.Report.{Report}
-use Rattle.payload.specs.declared.Family.{Family}
-use Rattle.payload.specs.declared.Family.TheVariants.{Ipv4, Ipv6}
+use Rattle.family.specs.declared.Family.{Family}
+use Rattle.family.specs.declared.Family.TheVariants.{Ipv4, Ipv6}
 use Rattle.payload.specs.declared.Prefix.{Prefix}
-use Rattle.payload.specs.Order.{width}
+use Rattle.family.specs.Widths.{width}
 use Rattle.content.specs.Values.{bits_of}
 use Rattle.prefixes.specs.Reading.{bit_count, low_end}
 use Rattle.entries.specs.Addresses.{then_some}

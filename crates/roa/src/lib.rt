@@ -9,7 +9,7 @@ ghost use Rattle.std.specs.Prelude.{◌≡◌, ◌+◌, ◌*◌, ◌^◌, ◌<�
 ghost use Rattle.fault.specs.Faults.{reported};
 ghost use Rattle.fault.specs.declared.Layer.TheVariants.{Content as ContentLayerOf};
 ghost use Rattle.file_faults.specs.Reports.{content_report};
-ghost use Rattle.payload.specs.Order.{width};
+ghost use Rattle.family.specs.Widths.{width};
 ghost use Rattle.prefixes.specs.Reading.{bit_count};
 ghost use Rattle.element.specs.Reading.{Placed, seen, octets_of};
 ghost use Rattle.layout.specs.Expecting.{told_by};

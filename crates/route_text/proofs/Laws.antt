@@ -5,10 +5,10 @@ use Rattle.std.proofs.lemmas.Fmt.{decimal_by_steps}
 use Rattle.std.proofs.lemmas.List.{append_assoc, append-nil}
 use Rattle.std.proofs.lemmas.Bool.{cases_Bool, le-leb, lt-ltb, eqb-true, leb-true, ne_eqb, and_parts, and_from}
 use Rattle.std.proofs.lemmas.Bool.Decides.{nat_tests}
-use Rattle.payload.specs.declared.Family.{Family}
-use Rattle.payload.specs.declared.Family.TheVariants.{Ipv4, Ipv6}
+use Rattle.family.specs.declared.Family.{Family}
+use Rattle.family.specs.declared.Family.TheVariants.{Ipv4, Ipv6}
 use Rattle.payload.specs.declared.Prefix.{Prefix}
-use Rattle.payload.specs.Order.{width}
+use Rattle.family.specs.Widths.{width}
 use Rattle.listing.specs.Texts.{hex_digit, group_at, group_text, ipv4_text, ipv6_text, address_text}
 use Rattle.listing.proofs.Addresses.{groups_begin, ipv6_open, back_zero}
 use Rattle.route_text.specs.Pieces.{then_some, after_word, is_digit, with_digit, digits_from, number_of, small, octet_of, octet_dot, quad_of, past_colon, six_of, either_of, Addressed, address_of, length_of, prefix_of}

@@ -3,10 +3,11 @@ use Rattle.std.proofs.Common.{◌≡◌, ℕ, ◌+◌, ◌-◌, ◌*◌, ◌/◌
 use lib.Pow.{split}
 use Rattle.std.specs.List.{ContainsAt as Has}
 use Rattle.std.proofs.lemmas.Bool.{cases_lt, and_parts, eqb-true}
-use Rattle.payload.specs.declared.Family.{Family}
+use Rattle.family.specs.declared.Family.{Family}
 use Rattle.payload.specs.declared.Prefix.{Prefix}
 use Rattle.payload.specs.declared.Payload.{Payload}
-use Rattle.payload.specs.Order.{width, lawful, all_lawful}
+use Rattle.family.specs.Widths.{width}
+use Rattle.payload.specs.Order.{lawful, all_lawful}
 use Rattle.payload.specs.Lists.{Around}
 use Rattle.payload.proofs.Blocks.{lawful_has}
 use Rattle.verdict.specs.declared.Verdict.{Verdict}

@@ -3,8 +3,8 @@ use Rattle.std.proofs.Common.{◌≡◌, ℕ, Bool, true, false, cond, ◌||◌,
 use Rattle.std.specs.List.{ContainsAt as Has}
 use Rattle.std.proofs.lemmas.Bool.{cases_Bool, cases_eq, both_ways}
 use Rattle.std.proofs.lemmas.Bool.Decides.{same_from_decides}
-use Rattle.payload.specs.declared.Family.{Family}
-use Rattle.payload.specs.declared.Family.TheVariants.{Ipv4, Ipv6}
+use Rattle.family.specs.declared.Family.{Family}
+use Rattle.family.specs.declared.Family.TheVariants.{Ipv4, Ipv6}
 use Rattle.payload.specs.declared.Prefix.{Prefix}
 use Rattle.payload.specs.declared.Payload.{Payload}
 use Rattle.payload.specs.Order.{rank}

@@ -4,8 +4,8 @@ use Rattle.std.specs.List.{ContainsAt as Has}
 use Rattle.std.proofs.lemmas.Bool.{or_cases, or_left, or_right, and_parts, and_from, both_ways, leb-true, le-leb, eqb-true, eq-eqb, ne_eqb, not-true, not_from_false, eqb-false, cond-true}
 use Rattle.fault.specs.declared.Rule.{Rule}
 use Rattle.fault.specs.declared.Rule.TheVariants as rule
-use Rattle.payload.specs.declared.Family.{Family}
-use Rattle.payload.specs.declared.Family.TheVariants.{Ipv4, Ipv6}
+use Rattle.family.specs.declared.Family.{Family}
+use Rattle.family.specs.declared.Family.TheVariants.{Ipv4, Ipv6}
 use Rattle.payload.specs.declared.Prefix.{Prefix}
 use Rattle.payload.specs.declared.Payload.{Payload}
 use Rattle.payload.specs.Order.{lawful}

@@ -12,7 +12,7 @@ use Rattle.points.specs.Ranks.{v4_rank}
 use Rattle.ranges.specs.declared.Range.{Range}
 use Rattle.entries.specs.Kinds.{v4_of, v4_entry}
 use Rattle.lists.specs.Entries.{Reading, entries_of}
-use Rattle.payload.specs.declared.Family.TheVariants.{Ipv4}
+use Rattle.family.specs.declared.Family.TheVariants.{Ipv4}
 use Rattle.payload.specs.declared.Prefix.{Prefix}
 use Rattle.payload.specs.declared.Payload.{Payload}
 use Rattle.verdict.specs.declared.Verdict.TheVariants.{Valid, Invalid, NotFound}
