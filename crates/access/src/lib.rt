@@ -9,8 +9,8 @@ ghost use Rattle.std.specs.Prelude.{◌≡◌, true, ◌&&◌};
 ghost use Rattle.std.specs.Option.{option_map};
 ghost use Rattle.fault.specs.declared.Layer.TheVariants.{Certificate};
 ghost use Rattle.file_faults.specs.Reports.{certificate_report};
-ghost use Rattle.element.specs.Reading.{Placed, seen, octets_of};
-ghost use Rattle.layout.specs.Expecting.{told_by, part_of};
+ghost use Rattle.element.specs.Reading.{seen, octets_of};
+ghost use Rattle.layout.specs.Expecting.{told_by};
 ghost use Rattle.names.specs.Tests.{is_folder, is_manifest_name};
 ghost use Rattle.access.specs.Access.{names_in, agrees, stands_in, folder_in, manifest_in, other_in, described, row_of, descriptions_of, access_of, access_in};
 
@@ -70,7 +70,6 @@ fn manifest_test(octets: &[u8], folder: Option<Part<'_>>) -> bool
 
 // The folder, from what follows the OID in its description.
 fn read_folder<'a>(rest: Part<'a>, manifest: Option<Part<'_>>) -> Result<Part<'a>, CertificateFault>
-    requires { Placed rest }
     ensures { told_by certificate_report octets_of result ≡ folder_in (option_map octets_of manifest.entry) (octets_of rest.entry) }
 {
     let (name, rest) = expect::<CertificateFault>(rest, 0x86)?;
@@ -83,7 +82,6 @@ fn read_folder<'a>(rest: Part<'a>, manifest: Option<Part<'_>>) -> Result<Part<'a
 
 // The manifest's name, from what follows the OID in its description.
 fn read_manifest<'a>(rest: Part<'a>, folder: Option<Part<'_>>) -> Result<Part<'a>, CertificateFault>
-    requires { Placed rest }
     ensures { told_by certificate_report octets_of result ≡ manifest_in (option_map octets_of folder.entry) (octets_of rest.entry) }
 {
     let (name, rest) = expect::<CertificateFault>(rest, 0x86)?;
@@ -96,7 +94,6 @@ fn read_manifest<'a>(rest: Part<'a>, folder: Option<Part<'_>>) -> Result<Part<'a
 
 // Another name, which is passed over.
 fn pass_over<'a>(rest: Part<'a>) -> Result<Part<'a>, CertificateFault>
-    requires { Placed rest }
     ensures { told_by certificate_report octets_of result ≡ other_in (octets_of rest.entry) }
 {
     let (name, rest) = expect::<CertificateFault>(rest, 0x86)?;
@@ -109,7 +106,6 @@ fn read_description<'a>(
     found: Found<'a>,
     description: &Element<'a>,
 ) -> Result<Found<'a>, CertificateFault>
-    requires { Placed description.now.content }
     ensures { told_by certificate_report names_in result ≡ described (names_in found.entry) (seen description.now) }
 {
     let Found { folder, manifest } = found;
@@ -138,7 +134,6 @@ fn read_description<'a>(
 
 // What the descriptions of a row say.
 fn read_row<'a>(content: Part<'a>) -> Result<Found<'a>, CertificateFault>
-    requires { Placed content }
     ensures { told_by certificate_report names_in result ≡ row_of (octets_of content.entry) }
 {
     let mut found = Found {
@@ -156,7 +151,6 @@ fn read_row<'a>(content: Part<'a>) -> Result<Found<'a>, CertificateFault>
 
 // The folder and the manifest's name, both of which have to stand.
 fn read_descriptions<'a>(content: Part<'a>) -> Result<Access<'a>, CertificateFault>
-    requires { Placed content }
     ensures { told_by certificate_report access_in result ≡ descriptions_of (octets_of content.entry) }
 {
     let end = content.place + content.octets.len();
@@ -169,7 +163,6 @@ fn read_descriptions<'a>(content: Part<'a>) -> Result<Access<'a>, CertificateFau
 
 // Reads the value of the extension: one SEQUENCE of descriptions, and nothing after it.
 pub fn read_access<'a>(value: Part<'a>) -> Result<Access<'a>, CertificateFault>
-    requires { Placed value }
     ensures { told_by certificate_report access_in result ≡ access_of (octets_of value.entry) }
 {
     let (row, rest) = expect::<CertificateFault>(value, 0x30)?;

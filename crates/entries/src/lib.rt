@@ -9,7 +9,7 @@ ghost use Rattle.content.specs.Values.{bits_of};
 ghost use Rattle.family.specs.Widths.{width};
 ghost use Rattle.fault.specs.declared.Layer.TheVariants.{Set};
 ghost use Rattle.fault.specs.Faults.{set_report, reported};
-ghost use Rattle.element.specs.Reading.{Seen, Placed, seen, octets_of};
+ghost use Rattle.element.specs.Reading.{Seen, seen, octets_of};
 ghost use Rattle.entries.specs.Addresses.{then_some, prefix_ends, low_half, high_half, halves_of, pair_of, address_entry};
 ghost use Rattle.layout.specs.Expecting.{told_by};
 ghost use Rattle.fault.specs.declared.Report.{Report};
@@ -33,7 +33,6 @@ pub trait Resource: Point {
     ghost entry: { Seen → Result (Range Self) Report };
 
     fn read_entry(element: &Element<'_>) -> Result<Range<Self>, SetFault>
-        requires { Placed element.now.content }
         ensures { reported set_report result ≡ entry (seen element.now) };
 }
 
@@ -81,9 +80,8 @@ fn broken(rule: Rule, place: usize) -> SetFault
 
 // The first and the last address of a range, from its two BIT STRINGs, and the octets after them.
 fn halves<'a>(content: Part<'a>, family: Family) -> Result<(u128, u128, Part<'a>), SetFault>
-    requires { Placed content }
     ensures value { told_by set_report (λ h. (h.0, h.1, octets_of h.2)) result ≡ halves_of (width family) (octets_of content.entry) }
-    ensures bound { IfOk result (λ h. (h.0 < 2 ^ width family) × (h.1 < 2 ^ width family) × Placed h.2) }
+    ensures bound { IfOk result (λ h. (h.0 < 2 ^ width family) × (h.1 < 2 ^ width family)) }
 {
     let (low, rest) = expect::<SetFault>(content, 0x03)?;
     let Some(first) = low_half(low.content.octets, family) else {
@@ -101,7 +99,6 @@ fn halves<'a>(content: Part<'a>, family: Family) -> Result<(u128, u128, Part<'a>
 
 // The first and the last address of a range, whose content is two BIT STRINGs and nothing more.
 fn address_pair(content: Part<'_>, family: Family) -> Result<(u128, u128), SetFault>
-    requires { Placed content }
     ensures value { reported set_report result ≡ pair_of (width family) (octets_of content.entry) }
     ensures bound { IfOk result (λ p. (p.0 < 2 ^ width family) × (p.1 < 2 ^ width family)) }
 {
@@ -112,7 +109,6 @@ fn address_pair(content: Part<'_>, family: Family) -> Result<(u128, u128), SetFa
 
 // The first and the last address of an entry: a prefix, or a range.
 fn address_entry(element: &Element<'_>, family: Family) -> Result<(u128, u128), SetFault>
-    requires { Placed element.now.content }
     ensures value { reported set_report result ≡ address_entry (width family) (seen element.now) }
     ensures bound { IfOk result (λ p. (p.0 < 2 ^ width family) × (p.1 < 2 ^ width family)) }
 {
@@ -193,9 +189,7 @@ pub fn as_number(content: &[u8]) -> Option<u32>
 
 // The two numbers of a range, and the octets after them.
 fn numbers<'a>(content: Part<'a>) -> Result<(u32, u32, Part<'a>), SetFault>
-    requires { Placed content }
     ensures value { told_by set_report (λ h. (h.0, h.1, octets_of h.2)) result ≡ numbers_of (octets_of content.entry) }
-    ensures placed { IfOk result (λ h. Placed h.2) }
 {
     let (low, rest) = expect::<SetFault>(content, 0x02)?;
     let Some(first) = as_number(low.content.octets) else {
@@ -213,7 +207,6 @@ fn numbers<'a>(content: Part<'a>) -> Result<(u32, u32, Part<'a>), SetFault>
 
 // The two numbers of a range, and nothing after them.
 fn number_pair(content: Part<'_>) -> Result<(u32, u32), SetFault>
-    requires { Placed content }
     ensures { reported set_report result ≡ number_pair (octets_of content.entry) }
 {
     let (first, last, rest) = numbers(content)?;
@@ -223,7 +216,6 @@ fn number_pair(content: Part<'_>) -> Result<(u32, u32), SetFault>
 
 // The first and the last number of an entry: one number, or a range.
 fn number_entry(element: &Element<'_>) -> Result<(u32, u32), SetFault>
-    requires { Placed element.now.content }
     ensures { reported set_report result ≡ number_entry (seen element.now) }
 {
     if element.tag == 0x02 {

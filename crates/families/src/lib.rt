@@ -6,7 +6,7 @@
 #![tactic(auto)]
 
 ghost use Rattle.std.specs.Prelude.{◌≡◌, ◌<◌, ◌≤◌, IfOk};
-ghost use Rattle.element.specs.Reading.{Placed, octets_of};
+ghost use Rattle.element.specs.Reading.{octets_of};
 ghost use Rattle.layout.specs.Expecting.{told_by};
 ghost use Rattle.families.specs.Families.{family_of, family_after, family_seen};
 
@@ -27,9 +27,7 @@ fn family_number(octets: &[u8]) -> u8
 
 // The family that a content begins with, which has to stand after the one before it, and the octets after its name.
 pub fn family_after<'a, F: LayerFault>(content: Part<'a>, before: u8) -> Result<(u8, Part<'a>), F>
-    requires { Placed content }
     ensures value { told_by F.told family_seen result ≡ family_after F.layer before (octets_of content.entry) }
-    ensures placed { IfOk result (λ p. Placed p.1) }
     ensures next { IfOk result (λ p. (before < p.0) × (p.0 ≤ 2)) }
 {
     let (name, rest) = expect::<F>(content, 0x04)?;

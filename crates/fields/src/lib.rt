@@ -2,14 +2,13 @@
 //
 // Each call reads the next element of a content as one kind of field, and answers its value and the octets after it,
 // or the first fault: a missing element at the end of the content, a wrong tag (2) or a forbidden value (3) at the tag.
-// All are generic over the layer's fault type, as `layout::expect` is, and ask that the octets of the content have
-// offsets in the machine, which every part of a file has; what they hand back has them too. It rests on `layout` for
-// reading, on `moment` for times and on `entries` for AS numbers.
+// All are generic over the layer's fault type, as `layout::expect` is. It rests on `layout` for reading, on `moment`
+// for times and on `entries` for AS numbers.
 #![tactic(auto)]
 
-ghost use Rattle.std.specs.Prelude.{◌≡◌, ◌<◌, ◌≤◌, length, IfOk};
+ghost use Rattle.std.specs.Prelude.{◌≡◌, ◌<◌, ◌≤◌, length};
 ghost use Rattle.moment.specs.Calendar.{number_in};
-ghost use Rattle.element.specs.Reading.{Placed, seen, octets_of};
+ghost use Rattle.element.specs.Reading.{seen, octets_of};
 ghost use Rattle.layout.specs.Expecting.{told_by};
 ghost use Rattle.fields.specs.Fields.{before, after_first, both_of, moment_and, whole_seen, is_constant, is_number20, is_serial, whole_of, sequence_of, constant_of, number20_of, serial_of, as_number_of, whole_bits_of, time_in, time_of, gtime_of};
 
@@ -27,9 +26,7 @@ fn is_constant(content: &[u8], n: u8) -> bool
 
 // The INTEGER n, a number below 128, is next: the octets after it.
 pub fn constant_integer<'a, F: LayerFault>(input: Part<'a>, n: u8) -> Result<Part<'a>, F>
-    requires { Placed input }
     ensures value { told_by F.told octets_of result ≡ constant_of F.layer n (octets_of input.entry) }
-    ensures placed { IfOk result (λ p. Placed p) }
 {
     let (element, rest) = expect::<F>(input, 0x02)?;
     if !is_constant(element.content.octets, n) {
@@ -40,9 +37,7 @@ pub fn constant_integer<'a, F: LayerFault>(input: Part<'a>, n: u8) -> Result<Par
 
 // An AS number, an INTEGER of 32 bits, and the octets after it.
 pub fn as_number<'a, F: LayerFault>(input: Part<'a>) -> Result<(u32, Part<'a>), F>
-    requires { Placed input }
     ensures value { told_by F.told (λ p. (p.0, octets_of p.1)) result ≡ as_number_of F.layer (octets_of input.entry) }
-    ensures placed { IfOk result (λ p. Placed p.1) }
 {
     let (element, rest) = expect::<F>(input, 0x02)?;
     let Some(number) = entries::as_number(element.content.octets) else {
@@ -67,9 +62,7 @@ fn is_serial(content: &[u8]) -> bool
 
 // An INTEGER from 0 of at most 20 octets: its content, and the octets after it.
 pub fn number20<'a, F: LayerFault>(input: Part<'a>) -> Result<(Part<'a>, Part<'a>), F>
-    requires { Placed input }
     ensures value { told_by F.told both_of result ≡ number20_of F.layer (octets_of input.entry) }
-    ensures placed { IfOk result (λ p. Placed p.0 × Placed p.1) }
 {
     let (element, rest) = expect::<F>(input, 0x02)?;
     if !is_number20(element.content.octets) {
@@ -80,9 +73,7 @@ pub fn number20<'a, F: LayerFault>(input: Part<'a>) -> Result<(Part<'a>, Part<'a
 
 // A serial, a positive INTEGER of at most 20 octets: its content, and the octets after it.
 pub fn serial<'a, F: LayerFault>(input: Part<'a>) -> Result<(Part<'a>, Part<'a>), F>
-    requires { Placed input }
     ensures value { told_by F.told both_of result ≡ serial_of F.layer (octets_of input.entry) }
-    ensures placed { IfOk result (λ p. Placed p.0 × Placed p.1) }
 {
     let (element, rest) = expect::<F>(input, 0x02)?;
     if !is_serial(element.content.octets) {
@@ -93,9 +84,8 @@ pub fn serial<'a, F: LayerFault>(input: Part<'a>) -> Result<(Part<'a>, Part<'a>)
 
 // The octets after the first.
 fn after_first<'a>(part: Part<'a>) -> Part<'a>
-    requires { (Placed part) × (0 < length part.octets.now) }
+    requires { 0 < length part.octets.now }
     ensures value { octets_of result ≡ after_first (octets_of part.entry) }
-    ensures placed { Placed result }
 {
     let Part { octets, place } = part;
     Part {
@@ -106,9 +96,7 @@ fn after_first<'a>(part: Part<'a>) -> Part<'a>
 
 // A BIT STRING without unused bits: its octets, and the octets after it.
 pub fn whole_bits<'a, F: LayerFault>(input: Part<'a>) -> Result<(Part<'a>, Part<'a>), F>
-    requires { Placed input }
     ensures value { told_by F.told both_of result ≡ whole_bits_of F.layer (octets_of input.entry) }
-    ensures placed { IfOk result (λ p. Placed p.0 × Placed p.1) }
 {
     let (element, rest) = expect::<F>(input, 0x03)?;
     let content = element.content.octets;
@@ -139,9 +127,7 @@ fn time_in<F: LayerFault>(element: &Element<'_>) -> Result<Moment, F>
 
 // A time, as UTCTime through 2049 and as GeneralizedTime from 2050, and the octets after it.
 pub fn time<'a, F: LayerFault>(input: Part<'a>) -> Result<(Moment, Part<'a>), F>
-    requires { Placed input }
     ensures value { told_by F.told moment_and result ≡ time_of F.layer (octets_of input.entry) }
-    ensures placed { IfOk result (λ p. Placed p.1) }
 {
     let (element, rest) = next::<F>(input)?;
     let moment = time_in::<F>(&element)?;
@@ -150,9 +136,7 @@ pub fn time<'a, F: LayerFault>(input: Part<'a>) -> Result<(Moment, Part<'a>), F>
 
 // A GeneralizedTime of any year, and the octets after it.
 pub fn gtime<'a, F: LayerFault>(input: Part<'a>) -> Result<(Moment, Part<'a>), F>
-    requires { Placed input }
     ensures value { told_by F.told moment_and result ≡ gtime_of F.layer (octets_of input.entry) }
-    ensures placed { IfOk result (λ p. Placed p.1) }
 {
     let (element, rest) = expect::<F>(input, 0x18)?;
     let Some(moment) = generalized_time(element.content.octets) else {
@@ -163,9 +147,8 @@ pub fn gtime<'a, F: LayerFault>(input: Part<'a>) -> Result<(Moment, Part<'a>), F
 
 // The octets of `input` before `rest`, with which it ends.
 fn front<'a>(input: Part<'a>, rest: Part<'_>) -> Part<'a>
-    requires { (Placed input) × (length rest.octets.now ≤ length input.octets.now) }
+    requires { length rest.octets.now ≤ length input.octets.now }
     ensures value { octets_of result ≡ before (octets_of input.entry) (octets_of rest.entry) }
-    ensures placed { Placed result }
 {
     let Part { octets, place } = input;
     let size = octets.len() - rest.octets.len();
@@ -180,9 +163,7 @@ pub fn whole<'a, F: LayerFault>(
     input: Part<'a>,
     tag: u8,
 ) -> Result<(Part<'a>, Element<'a>, Part<'a>), F>
-    requires { Placed input }
     ensures value { told_by F.told whole_seen result ≡ whole_of F.layer tag (octets_of input.entry) }
-    ensures placed { IfOk result (λ p. Placed p.0 × Placed p.1.content × Placed p.2) }
 {
     let (element, rest) = expect::<F>(input, tag)?;
     Ok((front(input, rest), element, rest))
@@ -190,9 +171,7 @@ pub fn whole<'a, F: LayerFault>(
 
 // A SEQUENCE that is not looked into: all its octets, tag and length too, and the octets after it.
 pub fn sequence<'a, F: LayerFault>(input: Part<'a>) -> Result<(Part<'a>, Part<'a>), F>
-    requires { Placed input }
     ensures value { told_by F.told both_of result ≡ sequence_of F.layer (octets_of input.entry) }
-    ensures placed { IfOk result (λ p. Placed p.0 × Placed p.1) }
 {
     let (all, _, rest) = whole::<F>(input, 0x30)?;
     Ok((all, rest))

@@ -5,13 +5,13 @@
 // content that lacks it, every other fault at the offending tag. They rest on `element` for reading.
 #![tactic(auto)]
 
-ghost use Rattle.std.specs.Prelude.{◌≡◌, IfOk};
+ghost use Rattle.std.specs.Prelude.{◌≡◌};
 ghost use Rattle.fault.specs.declared.Rule.{Rule};
 ghost use Rattle.fault.specs.declared.Layer.{Layer};
 ghost use Rattle.fault.specs.declared.Report.{Report};
 ghost use Rattle.fault.specs.Faults.{element_report, set_report};
 ghost use Rattle.fault.specs.declared.Layer.TheVariants.{Set};
-ghost use Rattle.element.specs.Reading.{Placed, octets_of};
+ghost use Rattle.element.specs.Reading.{octets_of};
 ghost use Rattle.layout.specs.Expecting.{part_of, next_of, expect_of, end_of, told_by};
 
 use element::{Element, Part, read};
@@ -34,9 +34,7 @@ pub trait LayerFault: Sized {
 
 // The next element of a content, of any tag, and the octets after it.
 pub fn next<'a, F: LayerFault>(input: Part<'a>) -> Result<(Element<'a>, Part<'a>), F>
-    requires { Placed input }
     ensures value { told_by F.told part_of result ≡ next_of F.layer (octets_of input.entry) }
-    ensures placed { IfOk result (λ p. Placed p.0.content × Placed p.1) }
 {
     let end = input.place;
     if input.octets.is_empty() {
@@ -50,9 +48,7 @@ pub fn next<'a, F: LayerFault>(input: Part<'a>) -> Result<(Element<'a>, Part<'a>
 
 // The next element of a content, which has to have this tag, and the octets after it.
 pub fn expect<'a, F: LayerFault>(input: Part<'a>, tag: u8) -> Result<(Element<'a>, Part<'a>), F>
-    requires { Placed input }
     ensures value { told_by F.told part_of result ≡ expect_of F.layer tag (octets_of input.entry) }
-    ensures placed { IfOk result (λ p. Placed p.0.content × Placed p.1) }
 {
     if input.octets.is_empty() {
         return Err(F::own(Rule::Structure, input.place));
@@ -70,7 +66,6 @@ pub fn expect<'a, F: LayerFault>(input: Part<'a>, tag: u8) -> Result<(Element<'a
 
 // Nothing more in a content.
 pub fn end<F: LayerFault>(rest: Part<'_>) -> Result<(), F>
-    requires { Placed rest }
     ensures { told_by F.told (λ u. u) result ≡ end_of F.layer (octets_of rest.entry) }
 {
     if rest.octets.is_empty() {

@@ -4,9 +4,9 @@
 // ascending order with a point missing between two, at most 256. It rests on `entries` for the single entry.
 #![tactic(auto)]
 
-ghost use Rattle.std.specs.Prelude.{◌≡◌, ℕ, ◌-◌, ◌<◌, ◌≤◌, length, None, OnOk, slice_set};
+ghost use Rattle.std.specs.Prelude.{◌≡◌, ◌-◌, ◌<◌, ◌≤◌, length, None, OnOk, slice_set};
 ghost use Rattle.fault.specs.Faults.{set_report, reported};
-ghost use Rattle.element.specs.Reading.{seen, octets_of, Placed};
+ghost use Rattle.element.specs.Reading.{seen, octets_of};
 ghost use Rattle.lists.specs.Entries.{is_apart, entry_in, past_last, entry_with, entries_of, counted, kept};
 
 use element::{Element, Part, read};
@@ -30,7 +30,6 @@ fn next_entry<P: Resource>(
     element: &Element<'_>,
     before: Option<Range<P>>,
 ) -> Result<Range<P>, SetFault>
-    requires { Placed element.now.content }
     ensures { reported set_report result ≡ entry_in P.rank P.entry before (seen element.now) }
 {
     let range = P::read_entry(element)?;
@@ -45,7 +44,6 @@ fn next_entry<P: Resource>(
 
 // The fault of an entry past the last that a list may have.
 fn past_last<P: Resource>(element: &Element<'_>, before: Option<Range<P>>) -> SetFault
-    requires { Placed element.now.content }
     ensures { set_report result ≡ past_last P.rank P.entry element.now.place (entry_in P.rank P.entry before (seen element.now)) }
 {
     let own = SetFault::Own {
@@ -70,7 +68,6 @@ fn counted_entry<P: Resource>(
     before: Option<Range<P>>,
     count: usize,
 ) -> Result<Range<P>, SetFault>
-    requires place { Placed element.now.content }
     requires count { count ≤ 256 }
     ensures value { reported set_report result ≡ entry_with P.rank P.entry (256 - count) before (seen element.now) }
     ensures room { OnOk result (count < 256) }
@@ -95,7 +92,6 @@ pub fn read_entries<P: Resource>(
     content: Part<'_>,
     table: &mut [Range<P>],
 ) -> Result<usize, SetFault>
-    requires place { Placed content }
     requires size { length table.old ≡ 256 }
     ensures value { reported set_report result ≡ counted (entries_of P.rank P.entry 256 None (octets_of content.entry)) }
     ensures table { table.new ≡ kept (entries_of P.rank P.entry 256 None (octets_of content.entry)).0 table.old }

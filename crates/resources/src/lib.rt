@@ -7,10 +7,10 @@
 // It rests on `lists` for the entries of a list and on `layout` for what a layout wants.
 #![tactic(auto)]
 
-ghost use Rattle.std.specs.Prelude.{◌≡◌, length, IfOk};
+ghost use Rattle.std.specs.Prelude.{◌≡◌, length};
 ghost use Rattle.fault.specs.declared.Layer.TheVariants.{Set};
 ghost use Rattle.fault.specs.Faults.{set_report, reported};
-ghost use Rattle.element.specs.Reading.{Placed, seen, octets_of};
+ghost use Rattle.element.specs.Reading.{seen, octets_of};
 ghost use Rattle.layout.specs.Expecting.{told_by, part_of};
 ghost use Rattle.lists.specs.Entries.{kept};
 ghost use Rattle.resources.specs.Parts.{allowed, next_of, choice_of, held_of, ranges_in, read_part, ranges_of};
@@ -104,9 +104,7 @@ fn allows(may: May, tag: u8) -> bool
 
 // The next element of a content, of any tag, and the octets after it.
 fn next<'a>(input: Part<'a>) -> Result<(Element<'a>, Part<'a>), SetFault>
-    requires { Placed input }
     ensures value { told_by set_report part_of result ≡ next_of (octets_of input.entry) }
-    ensures placed { IfOk result (λ p. Placed p.0.content × Placed p.1) }
 {
     if input.octets.is_empty() {
         return Err(broken(Rule::Structure, input.place));
@@ -116,9 +114,7 @@ fn next<'a>(input: Part<'a>) -> Result<(Element<'a>, Part<'a>), SetFault>
 
 // The NULL or the SEQUENCE in which a part is said, one that may stand there, and the octets after it.
 fn choice<'a>(input: Part<'a>, may: May) -> Result<(Element<'a>, Part<'a>), SetFault>
-    requires { Placed input }
     ensures value { told_by set_report part_of result ≡ choice_of may (octets_of input.entry) }
-    ensures placed { IfOk result (λ p. Placed p.0.content × Placed p.1) }
 {
     let (element, rest) = next(input)?;
     if element.tag != 0x05 && element.tag != 0x30 {
@@ -132,7 +128,6 @@ fn choice<'a>(input: Part<'a>, may: May) -> Result<(Element<'a>, Part<'a>), SetF
 
 // What a NULL or a SEQUENCE says of a part: it is inherited, or a list with at least one entry.
 fn held_in<P: Resource>(element: &Element<'_>, table: &mut [Range<P>]) -> Result<Held, SetFault>
-    requires place { Placed element.now.content }
     requires size { length table.old ≡ 256 }
     ensures value { reported set_report result ≡ held_of P.rank P.entry (seen element.now) }
     ensures table { table.new ≡ kept (ranges_in P.rank P.entry (seen element.now)) table.old }
@@ -156,7 +151,6 @@ fn read_part<P: Resource>(
     may: May,
     table: &mut [Range<P>],
 ) -> Result<Held, SetFault>
-    requires place { Placed content }
     requires size { length table.old ≡ 256 }
     ensures value { reported set_report result ≡ read_part P.rank P.entry may (octets_of content.entry) }
     ensures table { table.new ≡ kept (ranges_of P.rank P.entry may (octets_of content.entry)) table.old }
@@ -179,9 +173,7 @@ fn family_number(octets: &[u8]) -> u8
 
 // The family that a content begins with, which has to stand after the one before it, and the octets after its name.
 fn head<'a>(content: Part<'a>, before: u8) -> Result<(u8, Part<'a>), SetFault>
-    requires { Placed content }
     ensures value { told_by set_report (λ h. (h.0, octets_of h.1)) result ≡ head_of before (octets_of content.entry) }
-    ensures placed { IfOk result (λ h. Placed h.1) }
 {
     let (name, rest) = expect::<SetFault>(content, 0x04)?;
     let number = family_number(name.content.octets);
@@ -193,7 +185,6 @@ fn head<'a>(content: Part<'a>, before: u8) -> Result<(u8, Part<'a>), SetFault>
 
 // No family after IPv6: one that stands there is refused where its name is read.
 fn no_more(rest: Part<'_>) -> Result<(), SetFault>
-    requires { Placed rest }
     ensures { reported set_report result ≡ no_more (octets_of rest.entry) }
 {
     if rest.octets.is_empty() {
@@ -211,7 +202,6 @@ fn last_family(
     may: May,
     v6: &mut [Range<V6>],
 ) -> Result<Held, SetFault>
-    requires place { Placed content × Placed rest }
     requires size { length v6.old ≡ 256 }
     ensures value { reported set_report result ≡ last_of may (octets_of content.entry) (octets_of rest.entry) }
     ensures table { v6.new ≡ kept (ranges_of v6_rank v6_entry may (octets_of content.entry)) v6.old }
@@ -223,7 +213,6 @@ fn last_family(
 
 // What is said of IPv6 after IPv4.
 fn second(rest: Part<'_>, may: May, v6: &mut [Range<V6>]) -> Result<Held, SetFault>
-    requires place { Placed rest }
     requires size { length v6.old ≡ 256 }
     ensures value { reported set_report result ≡ second_of may (octets_of rest.entry) }
     ensures table { v6.new ≡ kept (second_ranges may (octets_of rest.entry)) v6.old }
@@ -243,7 +232,6 @@ fn families(
     v4: &mut [Range<V4>],
     v6: &mut [Range<V6>],
 ) -> Result<Addresses, SetFault>
-    requires place { Placed content }
     requires size { (length v4.old ≡ 256) × (length v6.old ≡ 256) }
     ensures value { reported set_report result ≡ families_of may (octets_of content.entry) }
     ensures v4 { v4.new ≡ kept (families_v4 may (octets_of content.entry)) v4.old }
@@ -273,7 +261,6 @@ fn addresses_in(
     v4: &mut [Range<V4>],
     v6: &mut [Range<V6>],
 ) -> Result<Addresses, SetFault>
-    requires place { Placed value }
     requires size { (length v4.old ≡ 256) × (length v6.old ≡ 256) }
     ensures value { reported set_report result ≡ addresses_of may (octets_of value.entry) }
     ensures v4 { v4.new ≡ kept (addresses_v4 may (octets_of value.entry)) v4.old }
@@ -287,7 +274,6 @@ fn addresses_in(
 
 // What the value of the extension for AS numbers says.
 fn asn_in(value: Part<'_>, may: May, asn: &mut [Range<Asn>]) -> Result<Held, SetFault>
-    requires place { Placed value }
     requires size { length asn.old ≡ 256 }
     ensures value { reported set_report result ≡ asn_of may (octets_of value.entry) }
     ensures table { asn.new ≡ kept (asn_ranges may (octets_of value.entry)) asn.old }
@@ -303,7 +289,6 @@ fn asn_in(value: Part<'_>, may: May, asn: &mut [Range<Asn>]) -> Result<Held, Set
 // Reads the value of the extension for addresses. It refuses at the first broken rule; the tables then hold the
 // entries before it.
 pub fn read_addresses(value: Part<'_>, may: May, tables: &mut Tables) -> Result<Addresses, SetFault>
-    requires { Placed value }
     ensures value { reported set_report result ≡ addresses_of may (octets_of value.entry) }
     ensures tables { tables.new ≡ address_tables may (octets_of value.entry) tables.old }
     ensures says { Tells (AddressesSay may (octets_of value.entry)) (addresses_listed tables.new) result }
@@ -314,7 +299,6 @@ pub fn read_addresses(value: Part<'_>, may: May, tables: &mut Tables) -> Result<
 
 // Reads the value of the extension for AS numbers, likewise.
 pub fn read_asn(value: Part<'_>, may: May, tables: &mut Tables) -> Result<Held, SetFault>
-    requires { Placed value }
     ensures value { reported set_report result ≡ asn_of may (octets_of value.entry) }
     ensures tables { tables.new ≡ asn_tables may (octets_of value.entry) tables.old }
     ensures says { Tells (AsnSays may (octets_of value.entry)) (asn_listed tables.new) result }

@@ -54,11 +54,11 @@ abbrev pub issuer_key_front : List ℕ
 issuer_key_front = 48 ∷ (22 ∷ (128 ∷ (20 ∷ [])))
 
 -- the algorithm stands twice: the second is the first, as whole elements
-abbrev pub same_algorithm : Layer → Octets → Octets → Result (Unit {0}) Report
-same_algorithm l first second = cond (bytes_eq first.octets second.octets) (Ok tt) (broken l Value second.place)
+abbrev pub same_algorithm : Layer → List ℕ → Octets → Result (Unit {0}) Report
+same_algorithm l first second = cond (bytes_eq first second.octets) (Ok tt) (broken l Value second.place)
 
 -- the end of what is signed: the algorithm once more, and the signature as a BIT STRING of whole octets
-abbrev pub seal_of : Layer → Octets → Octets → Result Octets Report
+abbrev pub seal_of : Layer → List ℕ → Octets → Result Octets Report
 seal_of l algorithm q =
     then_read (sequence_of l q) (λ again.
     then_read (same_algorithm l algorithm again.0) (λ _.

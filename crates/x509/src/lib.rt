@@ -5,10 +5,10 @@
 // signed part: the algorithm once more, and the signature. They serve every layer, by its own fault type, and rest on `layout` and `fields`.
 #![tactic(auto)]
 
-ghost use Rattle.std.specs.Prelude.{◌≡◌, ◌≤◌, true, length, IfSome, IfOk};
+ghost use Rattle.std.specs.Prelude.{◌≡◌, ◌≤◌, true, length};
 ghost use Rattle.std.specs.Option.{option_map};
 ghost use Rattle.std.specs.Str.{bytes_eq};
-ghost use Rattle.element.specs.Reading.{Placed, seen, octets_of};
+ghost use Rattle.element.specs.Reading.{seen, octets_of};
 ghost use Rattle.layout.specs.Expecting.{told_by, part_of};
 ghost use Rattle.x509.specs.Shared.{is_true, opened_of, value_octets, skipped, is_key, key_after, seal_of};
 
@@ -26,9 +26,7 @@ pub fn same(a: &[u8], b: &[u8]) -> bool
 
 // The OID of an extension, and the octets after it.
 pub fn open<'a, F: LayerFault>(extension: &Element<'a>) -> Result<(Element<'a>, Part<'a>), F>
-    requires { Placed extension.now.content }
     ensures value { told_by F.told part_of result ≡ opened_of F.layer (seen extension.now) }
-    ensures placed { IfOk result (λ p. Placed p.0.content × Placed p.1) }
 {
     if extension.tag != 0x30 {
         return Err(F::own(Rule::Structure, extension.place));
@@ -49,9 +47,7 @@ pub fn value_octets<'a, F: LayerFault>(
     rest: Part<'a>,
     critical: bool,
 ) -> Result<(Element<'a>, Part<'a>), F>
-    requires { Placed rest }
     ensures value { told_by F.told part_of result ≡ value_octets F.layer critical (octets_of rest.entry) }
-    ensures placed { IfOk result (λ p. Placed p.0.content × Placed p.1) }
 {
     let (element, after) = next::<F>(rest)?;
     if element.tag == 0x01 {
@@ -71,9 +67,8 @@ pub fn value_octets<'a, F: LayerFault>(
 
 // The octets of a part after the first so many.
 fn skip<'a>(part: Part<'a>, size: usize) -> Part<'a>
-    requires { (Placed part) × (size ≤ length part.octets.now) }
+    requires { size ≤ length part.octets.now }
     ensures value { octets_of result ≡ skipped size (octets_of part.entry) }
-    ensures placed { Placed result }
 {
     let Part { octets, place } = part;
     Part {
@@ -96,9 +91,7 @@ fn is_key(octets: &[u8], front: &[u8]) -> bool
 
 // The key identifier in a value: 20 octets after this front, and nothing else.
 pub fn key_identifier<'a>(value: Part<'a>, front: &[u8]) -> Option<Part<'a>>
-    requires { Placed value }
     ensures value { option_map octets_of result ≡ key_after front.now (octets_of value.entry) }
-    ensures placed { IfSome result (λ p. Placed p) }
 {
     if !is_key(value.octets, front) {
         return None;
@@ -107,13 +100,11 @@ pub fn key_identifier<'a>(value: Part<'a>, front: &[u8]) -> Option<Part<'a>>
 }
 
 // What follows a signed part: the same algorithm again, and the signature, whose octets it gives.
-pub fn seal<'a, F: LayerFault>(rest: Part<'a>, algorithm: Part<'_>) -> Result<Part<'a>, F>
-    requires { Placed rest }
-    ensures value { told_by F.told octets_of result ≡ seal_of F.layer (octets_of algorithm.entry) (octets_of rest.entry) }
-    ensures placed { IfOk result (λ p. Placed p) }
+pub fn seal<'a, F: LayerFault>(rest: Part<'a>, algorithm: &[u8]) -> Result<Part<'a>, F>
+    ensures value { told_by F.told octets_of result ≡ seal_of F.layer algorithm.now (octets_of rest.entry) }
 {
     let (again, rest) = sequence::<F>(rest)?;
-    if !same(algorithm.octets, again.octets) {
+    if !same(algorithm, again.octets) {
         return Err(F::own(Rule::Value, again.place));
     }
     let (signature, rest) = whole_bits::<F>(rest)?;

@@ -3,8 +3,6 @@ use Rattle.fields.proofs.Lengths.{expected-shorter}
 use Rattle.fields.proofs.whole.Goals as goal
 
 pub front-requires : goal.front-requires
-front-requires g c = (
-  c.requires,
-  expected-shorter g.F.LayerFault.layer c.args.tag (octets_of c.args.input)
-      (seen c.in_ok-element.element, octets_of c.in_ok-element.rest) c.in_ok-element.ensures.value,
-)
+front-requires g c =
+    expected-shorter g.F.LayerFault.layer c.args.tag (octets_of c.args.input) (seen c.in_ok-element.element, octets_of c.in_ok-element.rest)
+    c.in_ok-element.ensures.value
