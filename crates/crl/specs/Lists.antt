@@ -119,7 +119,7 @@ abbrev pub inside_of : Octets → Result Value Report
 inside_of q =
     then_read (whole_of layer.Crl 48 q) (λ s.
     then_read (body_of (inside s.1)) (λ b.
-    then_read (seal_of layer.Crl b.front.algorithm s.2) (λ signature. Ok (value_of s.0 b signature))))
+    then_read (seal_of layer.Crl b.front.algorithm.octets s.2) (λ signature. Ok (value_of s.0 b signature))))
 
 -- a whole file: one SEQUENCE, and nothing after it
 abbrev pub crl_of : Octets → Result Value Report

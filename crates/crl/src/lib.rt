@@ -5,12 +5,11 @@
 // through once. It rests on `x509` and `fields` for what its layout shares with certificates.
 #![tactic(auto)]
 
-ghost use Rattle.std.specs.Prelude.{◌≡◌, IfOk};
-ghost use Rattle.std.specs.Option.{option_map};
+ghost use Rattle.std.specs.Prelude.{◌≡◌};
 ghost use Rattle.fault.specs.Faults.{reported};
 ghost use Rattle.fault.specs.declared.Layer.TheVariants.{Crl as CrlLayerOf};
 ghost use Rattle.file_faults.specs.Reports.{crl_report};
-ghost use Rattle.element.specs.Reading.{Placed, seen, octets_of};
+ghost use Rattle.element.specs.Reading.{seen, octets_of};
 ghost use Rattle.layout.specs.Expecting.{told_by};
 ghost use Rattle.fields.specs.Fields.{both_of};
 ghost use Rattle.crl.specs.Rows.{row_of, row_step, revoked_of};
@@ -49,7 +48,6 @@ fn broken(rule: Rule, place: usize) -> CrlFault
 
 // Reads the row of a revoked certificate: its serial, and when it was revoked.
 fn read_row(row: &Element<'_>) -> Result<(), CrlFault>
-    requires { Placed row.now.content }
     ensures { reported crl_report result ≡ row_of (seen row.now) }
 {
     if row.tag != 0x30 {
@@ -62,7 +60,6 @@ fn read_row(row: &Element<'_>) -> Result<(), CrlFault>
 
 // Reads the rows of revoked certificates.
 fn read_rows(content: Part<'_>) -> Result<(), CrlFault>
-    requires { Placed content }
     ensures { reported crl_report result ≡ rows_of row_step tt (octets_of content.entry) }
 {
     let mut rest = content;
@@ -76,7 +73,6 @@ fn read_rows(content: Part<'_>) -> Result<(), CrlFault>
 
 // Reads the rows of revoked certificates, of which there is at least one.
 fn read_revoked(content: Part<'_>) -> Result<(), CrlFault>
-    requires { Placed content }
     ensures { reported crl_report result ≡ revoked_of (octets_of content.entry) }
 {
     if content.octets.is_empty() {
@@ -94,7 +90,6 @@ struct Extensions<'a> {
 
 // The issuer's key id, from what follows the OID in its extension.
 fn read_key<'a>(rest: Part<'a>) -> Result<Part<'a>, CrlFault>
-    requires { Placed rest }
     ensures { told_by crl_report octets_of result ≡ key_of (octets_of rest.entry) }
 {
     let (value, rest) = value_octets::<CrlFault>(rest, false)?;
@@ -107,7 +102,6 @@ fn read_key<'a>(rest: Part<'a>) -> Result<Part<'a>, CrlFault>
 
 // The number of the list, from what follows the OID in its extension.
 fn read_number<'a>(rest: Part<'a>) -> Result<Part<'a>, CrlFault>
-    requires { Placed rest }
     ensures { told_by crl_report octets_of result ≡ number_of (octets_of rest.entry) }
 {
     let (value, rest) = value_octets::<CrlFault>(rest, false)?;
@@ -122,7 +116,6 @@ fn read_extension<'a>(
     found: Extensions<'a>,
     extension: &Element<'a>,
 ) -> Result<Extensions<'a>, CrlFault>
-    requires { Placed extension.now.content }
     ensures { told_by crl_report found_in result ≡ extension_step (found_in found.entry) (seen extension.now) }
 {
     let Extensions { key, number } = found;
@@ -144,7 +137,6 @@ fn read_extension<'a>(
 
 // What the extensions of a row say.
 fn read_row_of_extensions<'a>(content: Part<'a>) -> Result<Extensions<'a>, CrlFault>
-    requires { Placed content }
     ensures { told_by crl_report found_in result ≡ found_of (octets_of content.entry) }
 {
     let mut found = Extensions {
@@ -162,7 +154,6 @@ fn read_row_of_extensions<'a>(content: Part<'a>) -> Result<Extensions<'a>, CrlFa
 
 // The issuer's key id and the list's number, both of which have to stand.
 fn read_extensions<'a>(content: Part<'a>) -> Result<(Part<'a>, Part<'a>), CrlFault>
-    requires { Placed content }
     ensures { told_by crl_report both_of result ≡ extensions_of (octets_of content.entry) }
 {
     let end = content.place + content.octets.len();
@@ -184,9 +175,7 @@ struct Head<'a> {
 
 // The front of the signed part, up to its dates, and the octets after it.
 fn read_front<'a>(content: Part<'a>) -> Result<(Head<'a>, Part<'a>), CrlFault>
-    requires { Placed content }
     ensures value { told_by crl_report front_in result ≡ front_of (octets_of content.entry) }
-    ensures placed { IfOk result (λ p. Placed p.1) }
 {
     let rest = constant_integer::<CrlFault>(content, 1)?;
     let (algorithm, rest) = sequence::<CrlFault>(rest)?;
@@ -204,9 +193,7 @@ fn read_front<'a>(content: Part<'a>) -> Result<(Head<'a>, Part<'a>), CrlFault>
 
 // The rows of revoked certificates, if they stand, the element with the extensions, and the octets after it.
 fn read_tail<'a>(rest: Part<'a>) -> Result<(Option<Part<'a>>, Element<'a>, Part<'a>), CrlFault>
-    requires { Placed rest }
     ensures value { told_by crl_report tail_in result ≡ tail_of (octets_of rest.entry) }
-    ensures placed { IfOk result (λ p. Placed p.1.content × Placed p.2) }
 {
     let (element, rest) = next::<CrlFault>(rest)?;
     if element.tag == 0x30 {
@@ -222,7 +209,6 @@ fn read_tail<'a>(rest: Part<'a>) -> Result<(Option<Part<'a>>, Element<'a>, Part<
 
 // The issuer's key id and the list's number, from the content of the element with the extensions.
 fn read_wrapped<'a>(content: Part<'a>) -> Result<(Part<'a>, Part<'a>), CrlFault>
-    requires { Placed content }
     ensures { told_by crl_report both_of result ≡ wrapped_of (octets_of content.entry) }
 {
     let (row, rest) = expect::<CrlFault>(content, 0x30)?;
@@ -242,7 +228,6 @@ struct Body<'a> {
 
 // Reads the signed part.
 fn read_body<'a>(content: Part<'a>) -> Result<Body<'a>, CrlFault>
-    requires { Placed content }
     ensures { told_by crl_report body_in result ≡ body_of (octets_of content.entry) }
 {
     let (head, rest) = read_front(content)?;
@@ -259,12 +244,11 @@ fn read_body<'a>(content: Part<'a>) -> Result<Body<'a>, CrlFault>
 
 // Reads what the outer SEQUENCE of a list holds: the signed part, the algorithm again and the signature.
 fn read_inside<'a>(content: Part<'a>) -> Result<Crl<'a>, CrlFault>
-    requires { Placed content }
     ensures { told_by crl_report value_in result ≡ inside_of (octets_of content.entry) }
 {
     let (signed, body, rest) = whole::<CrlFault>(content, 0x30)?;
     let body = read_body(body.content)?;
-    let signature = seal::<CrlFault>(rest, body.head.algorithm)?;
+    let signature = seal::<CrlFault>(rest, body.head.algorithm.octets)?;
     Ok(Crl {
         signed,
         issuer: body.head.issuer,

@@ -2,7 +2,7 @@
 use Rattle.std.specs.Prelude.{◌≡◌, ℕ, ◌+◌, ◌≤◌, List, [], ◌∷◌, ◌++◌, map, length, drop, Ok, Err, Result}
 use Rattle.fault.specs.declared.Report.{Report}
 use Rattle.file_faults.specs.Reports.{content_report}
-use Rattle.element.specs.Reading.{Octets, octets_of, Placed}
+use Rattle.element.specs.Reading.{Octets, octets_of}
 use Rattle.layout.specs.Expecting.{inside}
 use Rattle.repeats.specs.declared.Spot.{Spot}
 use Rattle.repeats.specs.Repeats.{Notes}
@@ -41,12 +41,6 @@ abbrev pub Stepped : Octets → ℕ → List Spot → List Spot → List Manifes
 Stepped q n ss zs ts us (Unread f) = (opened_of q ≡ Err (content_report f)) × (zs ≡ ss)
 Stepped q n ss zs ts us (Named f) = Begins q n ss zs (content_report f)
 Stepped q n ss zs ts us (Taken p) = Took q n ss zs ts us (octets_of p)
-
--- what follows an entry has its offsets in the machine
-abbrev pub StepPlaced : Step → Type 0
-StepPlaced (Unread f) = Unit {0}
-StepPlaced (Named f) = Unit {0}
-StepPlaced (Taken p) = Placed p
 
 -- the names of the entries that were begun are noted
 pub record NotedAs (q : Octets) (n : ℕ) (ss : List Spot) (parts : List Begun) (end : Result State Report) : Type 0 where

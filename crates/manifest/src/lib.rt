@@ -14,9 +14,9 @@ ghost use Rattle.std.specs.Prelude.{◌≡◌, ◌+◌, ◌<◌, ◌≤◌, leng
 ghost use Rattle.std.specs.Str.{bytes_eq};
 ghost use Rattle.repeats.specs.Reading.{unless_repeat};
 ghost use Rattle.file_faults.specs.Reports.{content_report};
-ghost use Rattle.element.specs.Reading.{Placed, octets_of};
+ghost use Rattle.element.specs.Reading.{octets_of};
 ghost use Rattle.layout.specs.Expecting.{told_by, part_of};
-ghost use Rattle.manifest.specs.Steps.{Stepped, StepPlaced, Ended};
+ghost use Rattle.manifest.specs.Steps.{Stepped, Ended};
 ghost use Rattle.manifest.specs.Manifests.{front_seen, name_of, opened_of, digest_of, named_twice, listed, entries_of, sha256, algorithm_of, head_and, head_of, manifest_seen, body_of, manifest_of};
 
 use element::{Element, Part};
@@ -78,9 +78,7 @@ struct Stopped {
 
 // A bare name, and the octets after it.
 fn read_name<'a>(input: Part<'a>) -> Result<(Element<'a>, Part<'a>), ContentFault>
-    requires { Placed input }
     ensures value { told_by content_report part_of result ≡ name_of (octets_of input.entry) }
-    ensures placed { IfOk result (λ p. Placed p.0.content × Placed p.1) }
 {
     let (element, rest) = expect::<ContentFault>(input, 0x16)?;
     if !is_bare(element.content.octets) {
@@ -91,9 +89,7 @@ fn read_name<'a>(input: Part<'a>) -> Result<(Element<'a>, Part<'a>), ContentFaul
 
 // An entry up to its name.
 fn read_front<'a>(input: Part<'a>) -> Result<Front<'a>, ContentFault>
-    requires { Placed input }
     ensures value { told_by content_report front_seen result ≡ opened_of (octets_of input.entry) }
-    ensures placed { IfOk result (λ f. Placed f.name.content × Placed f.inner × Placed f.after) }
 {
     let (entry, after) = expect::<ContentFault>(input, 0x30)?;
     let (name, inner) = read_name(entry.content)?;
@@ -102,7 +98,6 @@ fn read_front<'a>(input: Part<'a>) -> Result<Front<'a>, ContentFault>
 
 // A digest, a BIT STRING of 32 whole octets, with which the octets end.
 fn read_digest<'a>(input: Part<'a>) -> Result<Part<'a>, ContentFault>
-    requires { Placed input }
     ensures value { told_by content_report octets_of result ≡ digest_of (octets_of input.entry) }
 {
     let (digest, rest) = whole_bits::<ContentFault>(input)?;
@@ -120,10 +115,8 @@ fn take_entry<'a>(
     spots: &mut [Spot<'a>],
     count: usize,
 ) -> Step<'a>
-    requires place { Placed input }
     requires room { (count < length table.old) × (count < length spots.old) }
     ensures value { Stepped (octets_of input.entry) count spots.old spots.new table.old table.new result }
-    ensures placed { StepPlaced result }
 {
     let front = match read_front(input) {
         Ok(front) => front,
@@ -148,7 +141,6 @@ fn note_entries<'a>(
     table: &mut [ManifestEntry<'a>],
     spots: &mut [Spot<'a>],
 ) -> Result<usize, Stopped>
-    requires place { Placed content }
     requires size { length content.octets.now ≤ 65535 }
     requires room { (1490 ≤ length table.old) × (1490 ≤ length spots.old) }
     ensures { Ended (octets_of content.entry) spots.new table.old table.new result }
@@ -196,7 +188,6 @@ fn read_entries<'a>(
     table: &mut [ManifestEntry<'a>],
     spots: &mut [Spot<'a>],
 ) -> Result<usize, ContentFault>
-    requires place { Placed content }
     requires size { length content.octets.now ≤ 65535 }
     requires room { (1490 ≤ length table.old) × (1490 ≤ length spots.old) }
     ensures value { told_by content_report (λ n. listed n table.new) result ≡ entries_of (octets_of content.entry) }
@@ -220,9 +211,7 @@ fn is_sha256(content: &[u8]) -> bool
 
 // The digest algorithm, which is SHA-256: the octets after it.
 fn read_algorithm<'a>(input: Part<'a>) -> Result<Part<'a>, ContentFault>
-    requires { Placed input }
     ensures value { told_by content_report octets_of result ≡ algorithm_of (octets_of input.entry) }
-    ensures placed { IfOk result (λ p. Placed p) }
 {
     let (element, rest) = expect::<ContentFault>(input, 0x06)?;
     if !is_sha256(element.content.octets) {
@@ -233,9 +222,7 @@ fn read_algorithm<'a>(input: Part<'a>) -> Result<Part<'a>, ContentFault>
 
 // What stands in a manifest before its files, and the octets after it.
 fn read_head<'a>(input: Part<'a>) -> Result<(Head<'a>, Part<'a>), ContentFault>
-    requires { Placed input }
     ensures value { told_by content_report head_and result ≡ head_of (octets_of input.entry) }
-    ensures placed { IfOk result (λ p. Placed p.1) }
 {
     let (number, rest) = number20::<ContentFault>(input)?;
     let (this_update, rest) = gtime::<ContentFault>(rest)?;
@@ -257,7 +244,6 @@ fn read_body<'a>(
     table: &mut [ManifestEntry<'a>],
     spots: &mut [Spot<'a>],
 ) -> Result<Manifest<'a>, ContentFault>
-    requires place { Placed content }
     requires size { length content.octets.now ≤ 65535 }
     requires room { (1490 ≤ length table.old) × (1490 ≤ length spots.old) }
     ensures value { told_by content_report (manifest_seen table.new) result ≡ body_of (octets_of content.entry) }
@@ -276,7 +262,6 @@ pub fn read_manifest<'a>(
     table: &mut [ManifestEntry<'a>],
     spots: &mut [Spot<'a>],
 ) -> Result<Manifest<'a>, ContentFault>
-    requires place { Placed input }
     requires size { length input.octets.now ≤ 65535 }
     requires room { (1490 ≤ length table.old) × (1490 ≤ length spots.old) }
     ensures value { told_by content_report (manifest_seen table.new) result ≡ manifest_of (octets_of input.entry) }

@@ -11,7 +11,7 @@ ghost use Rattle.fault.specs.declared.Layer.TheVariants.{Content as ContentLayer
 ghost use Rattle.file_faults.specs.Reports.{content_report};
 ghost use Rattle.family.specs.Widths.{width};
 ghost use Rattle.prefixes.specs.Reading.{bit_count};
-ghost use Rattle.element.specs.Reading.{Placed, seen, octets_of};
+ghost use Rattle.element.specs.Reading.{seen, octets_of};
 ghost use Rattle.layout.specs.Expecting.{told_by};
 ghost use Rattle.layout.specs.Rows.{rows_of};
 ghost use Rattle.roa.specs.Roas.{family_named, family_rows, family_step, nothing_known, families_of, body_of, roa_of, roa_seen, known_seen};
@@ -88,9 +88,7 @@ fn prefix_in(content: &[u8], family: Family) -> Option<Prefix>
 
 // The prefix that a content begins with, and the octets after it.
 fn read_prefix<'a>(content: Part<'a>, family: Family) -> Result<(Prefix, Part<'a>), ContentFault>
-    requires { Placed content }
     ensures value { told_by content_report prefix_seen result ≡ prefix_at family (octets_of content.entry) }
-    ensures placed { IfOk result (λ p. Placed p.1) }
 {
     let (bits, rest) = expect::<ContentFault>(content, 0x03)?;
     let Some(prefix) = prefix_in(bits.content.octets, family) else {
@@ -112,7 +110,6 @@ fn max_in(content: &[u8], least: u8, most: u8) -> Option<u8>
 
 // The maximum with which a row ends, if it stands there.
 fn read_max(rest: Part<'_>, prefix: Prefix) -> Result<Option<u8>, ContentFault>
-    requires { Placed rest }
     ensures { reported content_report result ≡ max_at prefix (octets_of rest.entry) }
 {
     if rest.octets.is_empty() {
@@ -128,7 +125,6 @@ fn read_max(rest: Part<'_>, prefix: Prefix) -> Result<Option<u8>, ContentFault>
 
 // The row that a content is.
 fn read_row(content: Part<'_>, family: Family) -> Result<RoaRow, ContentFault>
-    requires { Placed content }
     ensures { reported content_report result ≡ row_of family (octets_of content.entry) }
 {
     let (prefix, rest) = read_prefix(content, family)?;
@@ -138,7 +134,6 @@ fn read_row(content: Part<'_>, family: Family) -> Result<RoaRow, ContentFault>
 
 // The row in an element, where so many rows of its family stand before it.
 fn counted_row(row: &Element<'_>, family: Family, before: usize) -> Result<RoaRow, ContentFault>
-    requires place { Placed row.now.content }
     requires count { before ≤ 256 }
     ensures value { reported content_report result ≡ row_in family before (seen row.now) }
     ensures room { OnOk result (before < 256) }
@@ -160,7 +155,6 @@ fn take_row(
     count: usize,
     table: &mut [RoaRow],
 ) -> Result<(), ContentFault>
-    requires place { Placed row.now.content }
     requires count { (base ≤ 256) × (base ≤ count) × (count ≤ base + 256) }
     requires size { length table.old ≡ 512 }
     ensures value { told_by content_report (λ _. take (count + 1) table.new) result ≡ row_step family base (take count table.old) (seen row.now) }
@@ -180,7 +174,6 @@ fn read_rows(
     base: usize,
     table: &mut [RoaRow],
 ) -> Result<usize, ContentFault>
-    requires place { Placed content }
     requires base { base ≤ 256 }
     requires size { length table.old ≡ 512 }
     ensures value { told_by content_report (λ n. take n table.new) result ≡ rows_of (row_step family base) (take base table.old) (octets_of content.entry) }
@@ -205,7 +198,6 @@ fn read_some(
     base: usize,
     table: &mut [RoaRow],
 ) -> Result<usize, ContentFault>
-    requires place { Placed content }
     requires base { base ≤ 256 }
     requires size { length table.old ≡ 512 }
     ensures value { told_by content_report (λ n. take n table.new) result ≡ some_rows family (take base table.old) (octets_of content.entry) }
@@ -225,7 +217,6 @@ fn read_family_rows(
     base: usize,
     table: &mut [RoaRow],
 ) -> Result<usize, ContentFault>
-    requires place { Placed content }
     requires base { base ≤ 256 }
     requires size { length table.old ≡ 512 }
     ensures value { told_by content_report (λ n. take n table.new) result ≡ family_rows family (take base table.old) (octets_of content.entry) }
@@ -256,7 +247,6 @@ fn read_family(
     count: usize,
     table: &mut [RoaRow],
 ) -> Result<(u8, usize), ContentFault>
-    requires place { Placed family.now.content }
     requires count { count ≤ 256 * before }
     requires size { length table.old ≡ 512 }
     ensures value { told_by content_report (known_seen table.new) result ≡ family_step (known_seen table.old (before, count)) (seen family.now) }
@@ -273,7 +263,6 @@ fn read_family(
 
 // Reads families into the table, and answers the number of the last and how many rows there are.
 fn read_each_family(content: Part<'_>, table: &mut [RoaRow]) -> Result<(u8, usize), ContentFault>
-    requires place { Placed content }
     requires size { length table.old ≡ 512 }
     ensures value { told_by content_report (known_seen table.new) result ≡ rows_of family_step nothing_known (octets_of content.entry) }
     ensures past { IfOk result (λ p. (p.1 ≤ 512) × (drop p.1 table.new ≡ drop p.1 table.old)) }
@@ -293,7 +282,6 @@ fn read_each_family(content: Part<'_>, table: &mut [RoaRow]) -> Result<(u8, usiz
 
 // Reads families into the table, at least one, likewise.
 fn read_families(content: Part<'_>, table: &mut [RoaRow]) -> Result<(u8, usize), ContentFault>
-    requires place { Placed content }
     requires size { length table.old ≡ 512 }
     ensures value { told_by content_report (known_seen table.new) result ≡ families_of (octets_of content.entry) }
     ensures past { IfOk result (λ p. (p.1 ≤ 512) × (drop p.1 table.new ≡ drop p.1 table.old)) }
@@ -306,7 +294,6 @@ fn read_families(content: Part<'_>, table: &mut [RoaRow]) -> Result<(u8, usize),
 
 // Reads what the SEQUENCE of a ROA holds: its AS and its families.
 fn read_body(content: Part<'_>, table: &mut [RoaRow]) -> Result<Roa, ContentFault>
-    requires place { Placed content }
     requires size { length table.old ≡ 512 }
     ensures value { told_by content_report (roa_seen table.new) result ≡ body_of (octets_of content.entry) }
     ensures past { IfOk result (λ a. (a.count ≤ 512) × (drop a.count table.new ≡ drop a.count table.old)) }
@@ -320,7 +307,6 @@ fn read_body(content: Part<'_>, table: &mut [RoaRow]) -> Result<Roa, ContentFaul
 
 // Reads the content of a ROA, with nothing after it, into the table.
 fn read_content(content: Part<'_>, table: &mut [RoaRow]) -> Result<Roa, ContentFault>
-    requires place { Placed content }
     requires size { length table.old ≡ 512 }
     ensures value { told_by content_report (roa_seen table.new) result ≡ roa_of (octets_of content.entry) }
     ensures past { IfOk result (λ a. (a.count ≤ 512) × (drop a.count table.new ≡ drop a.count table.old)) }
@@ -334,7 +320,6 @@ fn read_content(content: Part<'_>, table: &mut [RoaRow]) -> Result<Roa, ContentF
 // Reads the content of a ROA. Its rows stand at the front of the table then, and past them what stood there before; after a fault nothing is
 // said of the table.
 pub fn read_roa(content: Part<'_>, rows: &mut [RoaRow; ROWS]) -> Result<Roa, ContentFault>
-    requires { Placed content }
     ensures value { told_by content_report (roa_seen rows.new) result ≡ roa_of (octets_of content.entry) }
     ensures past { IfOk result (λ a. (a.count ≤ 512) × (drop a.count rows.new ≡ drop a.count rows.old)) }
 {

@@ -24,8 +24,8 @@ returns-in_err-found c =
 pub loop-rest-preserved : goal.loop-rest-preserved
 loop-rest-preserved c =
     let l = c.loop-rest in
-      l.invariant ∙ taken described (names_in l.found) (names_in c.in_ok-found.found) (octets_of l.rest) (seen c.in_ok-description.description) (octets_of c.in_ok-description.following) (some_left _ c.loop-rest-test.ensures)
-          c.in_ok-description.ensures.value c.in_ok-found.ensures
+    l.invariant ∙ taken described (names_in l.found) (names_in c.in_ok-found.found) (octets_of l.rest) (seen c.in_ok-description.description) (octets_of c.in_ok-description.following) (some_left _ c.loop-rest-test.ensures)
+    c.in_ok-description.ensures.value c.in_ok-found.ensures
 
 pub returns : goal.returns
 returns c = let l = c.loop-rest in sym (l.invariant ∙ ended described (names_in l.found) (octets_of l.rest) (none_left _ c.loop-rest-test.ensures))

@@ -11,7 +11,7 @@ returns-in_err-row c =
     let l = c.loop-rest in
     let p = err_from_is_err_and c.from_residual.result c.from_residual.ensures.1 in
     let e = no-element row_step tt (octets_of l.rest) c.in_err-row.field-0.0 (some_left _ c.loop-rest-test.ensures) c.in_err-row.ensures.value in
-    rw p.1 (rw p.2 (sym (l.invariant.1 ∙ e)))
+    rw p.1 (rw p.2 (sym (l.invariant ∙ e)))
 
 pub returns-in_err-read_row : goal.returns-in_err-read_row
 returns-in_err-read_row c =
@@ -19,15 +19,13 @@ returns-in_err-read_row c =
     let p = err_from_is_err_and c.from_residual-in_err-read_row.result c.from_residual-in_err-read_row.ensures.1 in
     let e = refused row_step tt (octets_of l.rest) (seen c.in_ok-row.row) (octets_of c.in_ok-row.following) (crl_report c.in_err-read_row.field-0.0) (some_left _ c.loop-rest-test.ensures)
     c.in_ok-row.ensures.value c.in_err-read_row.ensures in
-    rw p.1 (rw p.2 (sym (l.invariant.1 ∙ e)))
+    rw p.1 (rw p.2 (sym (l.invariant ∙ e)))
 
 pub loop-rest-preserved : goal.loop-rest-preserved
 loop-rest-preserved c =
-    let l = c.loop-rest in (
-      c.in_ok-row.ensures.placed.1,
-      l.invariant.1 ∙ taken row_step tt tt (octets_of l.rest) (seen c.in_ok-row.row) (octets_of c.in_ok-row.following) (some_left _ c.loop-rest-test.ensures)
-          c.in_ok-row.ensures.value c.in_ok-read_row.ensures,
-    )
+    let l = c.loop-rest in
+    l.invariant ∙ taken row_step tt tt (octets_of l.rest) (seen c.in_ok-row.row) (octets_of c.in_ok-row.following) (some_left _ c.loop-rest-test.ensures)
+    c.in_ok-row.ensures.value c.in_ok-read_row.ensures
 
 pub returns : goal.returns
-returns c = let l = c.loop-rest in sym (l.invariant.1 ∙ ended row_step tt (octets_of l.rest) (none_left _ c.loop-rest-test.ensures))
+returns c = let l = c.loop-rest in sym (l.invariant ∙ ended row_step tt (octets_of l.rest) (none_left _ c.loop-rest-test.ensures))

@@ -9,13 +9,13 @@ use Rattle.manifest.proofs.Sizes.{entry_size}
 use Rattle.manifest.proofs.note_entries.Goals as goal
 
 pub loop-rest-init : goal.loop-rest-init
-loop-rest-init c = (c.requires.place, begun (octets_of c.args.content) c.args.spots.now c.args.table.now)
+loop-rest-init c = begun (octets_of c.args.content) c.args.spots.now c.args.table.now
 
 pub returns-in-Unread : goal.returns-in-Unread
 returns-in-Unread c =
     let l = c.loop-rest in
     let q = octets_of l.rest in
-    let g = l.invariant.1 in
+    let g = l.invariant in
     let e : c.take_entry.new.spots ≡ l.spots = c.in-Unread.ensures.value.1 in
     let w = room_left l.count _ _ (length l.spots) g.octets c.requires.size (subst (λ (m : ℕ). 1490 ≤ m) (sym c.loop-rest.auto.spots) c.requires.room.1) in (
       g.parts,
@@ -27,7 +27,7 @@ pub returns-in-Named : goal.returns-in-Named
 returns-in-Named c =
     let l = c.loop-rest in
     let q = octets_of l.rest in
-    let g = l.invariant.1 in
+    let g = l.invariant in
     let w = room_left l.count _ _ (length l.spots) g.octets c.requires.size (subst (λ (m : ℕ). 1490 ≤ m) (sym c.loop-rest.auto.spots) c.requires.room.1) in
     let v : l.count + 1 ≤ length c.take_entry.new.spots = subst (λ (m : ℕ). l.count + 1 ≤ m) (sym c.take_entry.auto.spots) w.1 in
     (_, named (octets_of c.args.content) c.args.table.now q l.count l.spots c.take_entry.new.spots l.table (content_report c.in-Named.fault) v (some_left _ c.loop-rest-test.ensures) c.in-Named.ensures.value g)
@@ -46,16 +46,14 @@ loop-rest-preserved c =
     let z = octets_of c.in-Taken.after in
     let t = c.in-Taken.ensures.value in
     let s = entry_size q t.opened t.digest t.opens t.digests in
-    let long : 44 + length z.octets ≤ length q.octets = subst (λ (o : Octets). 44 + length o.octets ≤ length q.octets) t.after_is s in (
-      c.in-Taken.ensures.placed,
-      more (octets_of c.args.content) c.args.table.now q z l.count l.spots c.take_entry.new.spots l.table c.take_entry.new.table (some_left _ c.loop-rest-test.ensures) long t l.invariant.1,
-    )
+    let long : 44 + length z.octets ≤ length q.octets = subst (λ (o : Octets). 44 + length o.octets ≤ length q.octets) t.after_is s in
+    more (octets_of c.args.content) c.args.table.now q z l.count l.spots c.take_entry.new.spots l.table c.take_entry.new.table (some_left _ c.loop-rest-test.ensures) long t l.invariant
 
 pub returns : goal.returns
 returns c =
     let l = c.loop-rest in
     let q = octets_of l.rest in
-    let g = l.invariant.1 in
+    let g = l.invariant in
     let w = room_left l.count _ _ (length l.spots) g.octets c.requires.size (subst (λ (m : ℕ). 1490 ≤ m) (sym c.loop-rest.auto.spots) c.requires.room.1) in
     let v = room_left l.count _ _ (length l.table) g.octets c.requires.size (subst (λ (m : ℕ). 1490 ≤ m) (sym c.loop-rest.auto.table) c.requires.room.0) in
     ((g.parts, (q, finished (octets_of c.args.content) c.args.table.now q l.count l.spots l.table w.0 (none_left _ c.loop-rest-test.ensures) g)), g.others, v.0)

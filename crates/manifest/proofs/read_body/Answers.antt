@@ -9,7 +9,6 @@ read_entries-requires c =
     let h = c.in_ok-head in
     let p = c.in_ok-row in
     record {
-      place = p.ensures.placed.0;
       size = row_size (octets_of c.args.content) (head_and (h.head, h.rest)) (part_of (p.row, p.after)) 65535 h.ensures.value p.ensures.value c.requires.size;
       room = c.requires.room;
     }

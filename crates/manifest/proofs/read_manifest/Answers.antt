@@ -7,7 +7,6 @@ pub read_body-requires : goal.read_body-requires
 read_body-requires c =
     let p = c.in_ok-outer in
     record {
-      place = p.ensures.placed.0;
       size = content_size 48 (octets_of c.args.input) (part_of (p.outer, p.after)) 65535 p.ensures.value c.requires.size;
       room = c.requires.room;
     }

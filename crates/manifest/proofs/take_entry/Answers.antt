@@ -20,5 +20,4 @@ returns-in-Ok-read_digest c =
         files = stored ts n _ c.requires.room.0;
         others = drop-set-lt _ ts n _ (omega arith);
       };
-      placed = c.in-Ok.ensures.placed.2;
     }

@@ -12,7 +12,7 @@ returns-in_err-family c =
     let l = c.loop-rest in
     let p = err_from_is_err_and c.from_residual.result c.from_residual.ensures.1 in
     let e = no-element family_step (known_seen l.table (l.before, l.count)) (octets_of l.rest) c.in_err-family.field-0.0 (some_left _ c.loop-rest-test.ensures) c.in_err-family.ensures.value in
-    record { value = rw p.1 (rw p.2 (sym (l.invariant.5 ∙ e))); past = rw p.1 tt }
+    record { value = rw p.1 (rw p.2 (sym (l.invariant.4 ∙ e))); past = rw p.1 tt }
 
 pub returns-in_err-number : goal.returns-in_err-number
 returns-in_err-number c =
@@ -20,7 +20,7 @@ returns-in_err-number c =
     let p = err_from_is_err_and c.from_residual-in_err-number.result c.from_residual-in_err-number.ensures.1 in
     let e = refused family_step (known_seen l.table (l.before, l.count)) (octets_of l.rest) (seen c.in_ok-family.family) (octets_of c.in_ok-family.following) (content_report c.in_err-number.field-0.0) (some_left _ c.loop-rest-test.ensures)
     c.in_ok-family.ensures.value c.in_err-number.ensures.value in
-    record { value = rw p.1 (rw p.2 (sym (l.invariant.5 ∙ e))); past = rw p.1 tt }
+    record { value = rw p.1 (rw p.2 (sym (l.invariant.4 ∙ e))); past = rw p.1 tt }
 
 pub loop-rest-preserved : goal.loop-rest-preserved
 loop-rest-preserved c =
@@ -28,12 +28,11 @@ loop-rest-preserved c =
     let more = c.in_ok-number.ensures in
     let t = c.read_family.new.table in
     let n = c.in_ok-number.total in (
-      c.in_ok-family.ensures.placed.1,
       more.past.0,
       more.past.1,
       more.size,
-      more.past.3 ∙ past_later l.count n l.table c.args.table.now more.past.2 l.invariant.4,
-      l.invariant.5
+      more.past.3 ∙ past_later l.count n l.table c.args.table.now more.past.2 l.invariant.3,
+      l.invariant.4
           ∙ taken family_step (known_seen l.table (l.before, l.count)) (known_seen t (c.in_ok-number.number, n)) (octets_of l.rest) (seen c.in_ok-family.family) (octets_of c.in_ok-family.following) (some_left _ c.loop-rest-test.ensures)
           c.in_ok-family.ensures.value more.value,
     )
@@ -41,9 +40,9 @@ loop-rest-preserved c =
 pub returns : goal.returns
 returns c =
     let l = c.loop-rest in
-    let few = l.invariant.2 in
-    let last = l.invariant.1 in
+    let few = l.invariant.1 in
+    let last = l.invariant.0 in
     record {
-      value = sym (l.invariant.5 ∙ ended family_step (known_seen l.table (l.before, l.count)) (octets_of l.rest) (none_left _ c.loop-rest-test.ensures));
-      past = (omega arith, l.invariant.4);
+      value = sym (l.invariant.4 ∙ ended family_step (known_seen l.table (l.before, l.count)) (octets_of l.rest) (none_left _ c.loop-rest-test.ensures));
+      past = (omega arith, l.invariant.3);
     }

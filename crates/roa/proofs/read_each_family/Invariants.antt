@@ -1,13 +1,12 @@
 use Rattle.std.proofs.Common.{◌≡◌, ◌*◌, ◌≤◌, length, drop}
-use Rattle.element.specs.Reading.{Placed, octets_of}
+use Rattle.element.specs.Reading.{octets_of}
 use Rattle.layout.specs.Rows.{rows_of}
 use Rattle.roa.specs.Roas.{family_step, nothing_known, known_seen}
 use Rattle.roa.proofs.read_each_family.Given as goal
 
 abbrev pub invariant-loop-rest : goal.invariant-loop-rest
 invariant-loop-rest l =
-    Placed l.rest
-    × (l.before ≤ 2)
+    (l.before ≤ 2)
     × (l.count ≤ 256 * l.before)
     × (length l.table ≡ 512)
     × (drop l.count l.table ≡ drop l.count l.initial.table)

@@ -1,13 +1,12 @@
 use Rattle.std.proofs.Common.{◌≡◌, ◌+◌, ◌≤◌, length, take, drop}
-use Rattle.element.specs.Reading.{Placed, octets_of}
+use Rattle.element.specs.Reading.{octets_of}
 use Rattle.layout.specs.Rows.{rows_of}
 use Rattle.roa.specs.Rows.{row_step}
 use Rattle.roa.proofs.read_rows.Given as goal
 
 abbrev pub invariant-loop-rest : goal.invariant-loop-rest
 invariant-loop-rest l =
-    Placed l.rest
-    × (l.base ≤ l.count)
+    (l.base ≤ l.count)
     × (l.count ≤ l.base + 256)
     × (length l.table ≡ 512)
     × (drop l.count l.table ≡ drop l.count l.initial.table)
