@@ -1,5 +1,5 @@
 mod Steps
-mod Merge
+mod Merging
 mod Area
 pub mod Tested
 pub mod Containment
