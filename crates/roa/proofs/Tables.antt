@@ -1,12 +1,14 @@
 -- The table into which rows are read. Assumes nothing.
-use Rattle.std.proofs.Common.{◌≡◌, ℕ, ◌+◌, ◌-◌, ◌<◌, ◌≤◌, List, [], ◌∷◌, ◌++◌, length, take, drop, set, Ok, Err, Result, sym, ap, ◌∙◌, arith}
+use Rattle.std.proofs.Common.{◌≡◌, ℕ, ◌+◌, ◌-◌, ◌<◌, ◌≤◌, List, [], ◌∷◌, ◌++◌, length, take, drop, set, Some, None, Ok, Err, Option, Result, sym, ap, ◌∙◌, arith}
 use Rattle.std.proofs.lemmas.List.{take_more_set, length-take-le, drop-drop}
 use Rattle.fault.specs.declared.Report.{Report}
 use Rattle.family.specs.declared.Family.{Family}
+use Rattle.family.specs.declared.Family.TheVariants.{Ipv4, Ipv6}
 use Rattle.element.specs.Reading.{Seen}
 use Rattle.layout.specs.Expecting.{then_read}
 use Rattle.roa.specs.declared.RoaRow.{RoaRow}
 use Rattle.roa.specs.Rows.{row_in, row_step}
+use Rattle.roa.specs.Roas.{most_rows}
 
 -- a row that was read is one row more
 stepped :
@@ -45,3 +47,9 @@ pub past_later : {X : Type 0} (n m : ℕ) (xs ys : List X) → n ≤ m → drop 
 past_later n m xs ys h e =
     let k : m ≡ n + (m - n) = omega arith in
     ap (λ (i : ℕ). drop i xs) k ∙ sym (drop-drop (m - n) n xs) ∙ ap (drop (m - n)) e ∙ drop-drop (m - n) n ys ∙ ap (λ (i : ℕ). drop i ys) (sym k)
+
+-- the table has room for two families
+pub most_rows_most : (b : Option Family) → most_rows b ≤ 512
+most_rows_most None = omega arith
+most_rows_most (Some Ipv4) = omega arith
+most_rows_most (Some Ipv6) = omega arith

@@ -1,5 +1,5 @@
 -- The content of a ROA (RFC 9582 4): roa = S{INT S{S{OCT S{S{BITS INT?}+}}+}}. Assumes nothing.
-use Rattle.std.specs.Prelude.{ℕ, cond, List, [], length, take, Ok, Result, ◌==◌}
+use Rattle.std.specs.Prelude.{ℕ, cond, List, [], length, take, Some, None, Ok, Option, Result, ◌==◌}
 use Rattle.fault.specs.declared.Rule.TheVariants.{Structure}
 use Rattle.fault.specs.declared.Layer.TheVariants.{Content}
 use Rattle.fault.specs.declared.Report.{Report}
@@ -14,13 +14,9 @@ use Rattle.roa.specs.declared.RoaRow.{RoaRow}
 use Rattle.roa.specs.declared.Roa.{Roa}
 use Rattle.roa.specs.Rows.{some_rows}
 
--- the family of a number, 1 for IPv4 and 2 for IPv6
-abbrev pub family_named : ℕ → Family
-family_named n = cond (n == 1) Ipv4 Ipv6
-
--- what is known so far: the number of the last family, 0 before the first, and the rows of all of them
+-- what is known so far: the last family, if there is one, and the rows of all of them
 pub record Known : Type 0 where
-  pub family : ℕ
+  pub family : Option Family
   pub rows : List RoaRow
 
 -- what follows the name of a family: a SEQUENCE of its rows, and nothing more
@@ -34,13 +30,13 @@ family_rows f rows q =
 abbrev pub family_in : Known → Octets → Result Known Report
 family_in s q =
     then_read (family_after Content s.family q) (λ h.
-    then_read (family_rows (family_named h.0) s.rows h.1) (λ rs. Ok record { family = h.0; rows = rs }))
+    then_read (family_rows h.0 s.rows h.1) (λ rs. Ok record { family = Some h.0; rows = rs }))
 
 abbrev pub family_step : Known → Seen → Result Known Report
 family_step s e = cond (e.tag == 48) (family_in s (inside e)) (broken Content Structure e.place)
 
 abbrev pub nothing_known : Known
-nothing_known = record { family = 0; rows = [] }
+nothing_known = record { family = None; rows = [] }
 
 -- the families, of which there is at least one
 abbrev pub families_of : Octets → Result Known Report
@@ -69,5 +65,11 @@ roa_of q =
 abbrev pub roa_seen : List RoaRow → Roa → Authorised
 roa_seen table r = record { asn = r.asn; rows = take r.count table }
 
-abbrev pub known_seen : List RoaRow → ℕ × ℕ → Known
+abbrev pub known_seen : List RoaRow → Option Family × ℕ → Known
 known_seen table p = record { family = p.0; rows = take p.1 table }
+
+-- how many rows the table has at most, up to the last family: 256 of each
+abbrev pub most_rows : Option Family → ℕ
+most_rows None = 0
+most_rows (Some Ipv4) = 256
+most_rows (Some Ipv6) = 512

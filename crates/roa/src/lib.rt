@@ -5,7 +5,7 @@
 // It rests on `fields`, `families` and `layout` for the layout, on `prefixes` for the bits of an address and on `entries` for numbers.
 #![tactic(auto)]
 
-ghost use Rattle.std.specs.Prelude.{◌≡◌, ◌+◌, ◌*◌, ◌^◌, ◌<◌, ◌≤◌, length, take, drop, IfOk, OnOk};
+ghost use Rattle.std.specs.Prelude.{◌≡◌, ◌+◌, ◌*◌, ◌^◌, ◌<◌, ◌≤◌, length, take, drop, Some, IfOk, OnOk};
 ghost use Rattle.fault.specs.Faults.{reported};
 ghost use Rattle.fault.specs.declared.Layer.TheVariants.{Content as ContentLayerOf};
 ghost use Rattle.file_faults.specs.Reports.{content_report};
@@ -14,7 +14,7 @@ ghost use Rattle.prefixes.specs.Reading.{bit_count};
 ghost use Rattle.element.specs.Reading.{seen, octets_of};
 ghost use Rattle.layout.specs.Expecting.{told_by};
 ghost use Rattle.layout.specs.Rows.{rows_of};
-ghost use Rattle.roa.specs.Roas.{family_named, family_rows, family_step, nothing_known, families_of, body_of, roa_of, roa_seen, known_seen};
+ghost use Rattle.roa.specs.Roas.{family_rows, family_step, nothing_known, families_of, body_of, roa_of, roa_seen, known_seen, most_rows};
 ghost use Rattle.roa.specs.Rows.{top_of, prefix_of, prefix_seen, prefix_at, max_of, max_at, row_of, row_in, row_step, some_rows};
 
 use content::read_bit_string;
@@ -229,51 +229,43 @@ fn read_family_rows(
     Ok(count)
 }
 
-// The family of a number, 1 for IPv4 and 2 for IPv6.
-fn family_named(number: u8) -> Family
-    ensures { result ≡ family_named number }
-{
-    if number == 1 {
-        Family::Ipv4
-    } else {
-        Family::Ipv6
-    }
-}
-
-// Reads a family, which has to stand after the one before it, and answers its number and how many rows stand in the table then.
+// Reads a family, which has to stand after the one before it, and answers it and how many rows stand in the table then.
 fn read_family(
     family: &Element<'_>,
-    before: u8,
+    before: Option<Family>,
     count: usize,
     table: &mut [RoaRow],
-) -> Result<(u8, usize), ContentFault>
-    requires count { count ≤ 256 * before }
+) -> Result<(Family, usize), ContentFault>
+    requires count { count ≤ most_rows before }
     requires size { length table.old ≡ 512 }
-    ensures value { told_by content_report (known_seen table.new) result ≡ family_step (known_seen table.old (before, count)) (seen family.now) }
-    ensures past { IfOk result (λ p. (p.0 ≤ 2) × (p.1 ≤ 256 * p.0) × (count ≤ p.1) × (drop p.1 table.new ≡ drop p.1 table.old)) }
+    ensures value { told_by content_report (λ p. known_seen table.new (Some p.0, p.1)) result ≡ family_step (known_seen table.old (before, count)) (seen family.now) }
+    ensures past { IfOk result (λ p. (p.1 ≤ most_rows (Some p.0)) × (count ≤ p.1) × (drop p.1 table.new ≡ drop p.1 table.old)) }
     ensures size { length table.new ≡ 512 }
 {
     if family.tag != 0x30 {
         return Err(broken(Rule::Structure, family.place));
     }
-    let (number, rest) = family_after::<ContentFault>(family.content, before)?;
-    let total = read_family_rows(rest, family_named(number), count, table)?;
-    Ok((number, total))
+    let (named, rest) = family_after::<ContentFault>(family.content, before)?;
+    let total = read_family_rows(rest, named, count, table)?;
+    Ok((named, total))
 }
 
-// Reads families into the table, and answers the number of the last and how many rows there are.
-fn read_each_family(content: Part<'_>, table: &mut [RoaRow]) -> Result<(u8, usize), ContentFault>
+// Reads families into the table, and answers the last and how many rows there are.
+fn read_each_family(
+    content: Part<'_>,
+    table: &mut [RoaRow],
+) -> Result<(Option<Family>, usize), ContentFault>
     requires size { length table.old ≡ 512 }
     ensures value { told_by content_report (known_seen table.new) result ≡ rows_of family_step nothing_known (octets_of content.entry) }
     ensures past { IfOk result (λ p. (p.1 ≤ 512) × (drop p.1 table.new ≡ drop p.1 table.old)) }
 {
     let mut rest = content;
-    let mut before = 0;
+    let mut before = None;
     let mut count = 0;
     while !rest.octets.is_empty() {
         let (family, following) = read(rest)?;
-        let (number, total) = read_family(&family, before, count, table)?;
-        before = number;
+        let (named, total) = read_family(&family, before, count, table)?;
+        before = Some(named);
         count = total;
         rest = following;
     }
@@ -281,7 +273,10 @@ fn read_each_family(content: Part<'_>, table: &mut [RoaRow]) -> Result<(u8, usiz
 }
 
 // Reads families into the table, at least one, likewise.
-fn read_families(content: Part<'_>, table: &mut [RoaRow]) -> Result<(u8, usize), ContentFault>
+fn read_families(
+    content: Part<'_>,
+    table: &mut [RoaRow],
+) -> Result<(Option<Family>, usize), ContentFault>
     requires size { length table.old ≡ 512 }
     ensures value { told_by content_report (known_seen table.new) result ≡ families_of (octets_of content.entry) }
     ensures past { IfOk result (λ p. (p.1 ≤ 512) × (drop p.1 table.new ≡ drop p.1 table.old)) }
