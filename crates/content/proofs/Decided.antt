@@ -1,5 +1,8 @@
 -- The tests on contents decide the relations of the grammar. Assumes nothing.
-use Rattle.std.proofs.Common.{◌≡◌, ℕ, zero, suc, ◌-◌, ◌<◌, Bool, true, false, cond, ◌||◌, eqb, ltb, ◌⊎◌, List, [], ◌∷◌, length, get_or, is_some, Some, None, Ok, Err, Decides, Option, sym, refl, ap, ◌∙◌, inl, inr, arith}
+use Rattle.std.proofs.Common.{◌≡◌, ℕ, zero, suc, ◌-◌, ◌<◌, Bool, true, false, cond, ◌||◌, eqb, ltb, ◌⊎◌, List, [], ◌∷◌, length, get_or, is_some, Some, None, Ok, Err, Decides, MatchBool, Option, sym, refl, ap, ◌∙◌, inl, inr, arith}
+use Rattle.std.specs.Str.{IsAscii, IsNotAscii}
+use Rattle.std.proofs.lemmas.Bool.{cases_lt, cases_Bool}
+use Rattle.std.proofs.lemmas.List.{get_or_past}
 use Rattle.std.proofs.lemmas.Bool.Decides.{nat_tests, Decides-like, Decides-ltb, eqb_tells}
 use Rattle.std.proofs.ByRecursion.{Decides-by_and, All-get_or, All-from_get_or}
 use Rattle.fault.specs.declared.Breach.{Breach}
@@ -47,10 +50,17 @@ integer_decides (x ∷ (y ∷ c)) = (
 )
 
 pub bits_decides : (c : List ℕ) → Decides (bits_form c) (BitStringContent c)
-bits_decides c = (
-  λ e. record { counted = grind (arith, nat_tests); few = grind (arith, nat_tests); none = λ n. grind (arith, nat_tests); zero = λ n. grind (arith, nat_tests) },
-  λ p. let a = p.counted in let b = p.few in let d = p.none in let z = p.zero in grind (arith, nat_tests),
-)
+bits_decides [] = (λ e. absurd (never e), λ p. let h = p.counted in absurd (omega arith))
+bits_decides (u ∷ o) =
+    let l : length (u ∷ o) - 1 ≡ length o = omega arith in (
+      λ e. record {
+        counted = omega arith;
+        few = grind (arith, nat_tests);
+        none = λ n. grind (arith, nat_tests);
+        zero = λ n. grind (arith, nat_tests);
+      },
+      λ p. let b = p.few in let d = p.none in let z = p.zero in grind (arith, nat_tests),
+    )
 
 pub null_decides : (c : List ℕ) → Decides (eqb (length c) 0) (NullContent c)
 null_decides [] = (λ e. refl, λ p. refl)
@@ -165,3 +175,15 @@ form_checked GeneralizedTime c = checked_by _ GeneralizedTime c _ (generalized_d
 form_checked Sequence c = tt
 form_checked Set c = tt
 form_checked Other c = tt
+
+ascii_not : (c : List ℕ) → below128 c ≡ true → IsNotAscii c → ⊥
+ascii_not c t h =
+    elim (cases_lt h.0 (length c)) [
+      | inl l ↦ (let a = (ia5_decides c).0 t h.0 l in omega (arith, h.1))
+      | inr l ↦ (let e = get_or_past c h.0 0 l in omega (arith, h.1))
+    ]
+
+-- the library's test on ASCII is ours
+pub ascii_is : (c : List ℕ) (r : Bool) → MatchBool r (IsAscii c) (IsNotAscii c) → r ≡ below128 c
+ascii_is c true h = sym ((ia5_decides c).1 (λ k l. h k))
+ascii_is c false h = elim (cases_Bool (below128 c)) [ inl t ↦ absurd (ascii_not c t h) | inr f ↦ sym f ]

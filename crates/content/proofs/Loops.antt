@@ -1,14 +1,8 @@
 -- One turn of the loops over a content: what is left of the octets gives the answer. Assumes nothing.
-use Rattle.std.proofs.Common.{◌≡◌, ℕ, ◌+◌, ◌<◌, ◌≤◌, Bool, true, false, cond, eqb, ltb, List, length, get_or, drop, ap, ◌∙◌, arith}
+use Rattle.std.proofs.Common.{◌≡◌, ℕ, ◌+◌, ◌<◌, Bool, true, false, cond, eqb, ltb, List, length, get_or, drop, ap, ◌∙◌, arith}
 use Rattle.std.proofs.lemmas.List.{at_drop_more}
 use Rattle.std.proofs.lemmas.Bool.Decides.{nat_tests}
-use Rattle.content.specs.Forms.{arcs, below128, oid_form}
-
-pub below_here : (c : List ℕ) (i : ℕ) → i < length c → 128 ≤ get_or c i 0 → below128 (drop i c) ≡ false
-below_here c i h high = let e = at_drop_more below128 c i 0 h in grind (arith, nat_tests)
-
-pub below_next : (c : List ℕ) (i : ℕ) → i < length c → get_or c i 0 < 128 → below128 (drop i c) ≡ below128 (drop (i + 1) c)
-below_next c i h low = let e = at_drop_more below128 c i 0 h in grind (arith, nat_tests)
+use Rattle.content.specs.Forms.{arcs, oid_form}
 
 pub arcs_here : (b : Bool) (c : List ℕ) (i : ℕ) → i < length c → b ≡ true → get_or c i 0 ≡ 128 → arcs b (drop i c) ≡ false
 arcs_here b c i h begins at = let e = at_drop_more (arcs b) c i 0 h in grind (arith, nat_tests)

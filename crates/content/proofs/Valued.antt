@@ -13,19 +13,6 @@ valued :
 valued Value P c v true d only here = here (d.0 refl)
 valued Value P c v false d only here = λ w h. (let e : false ≡ true = d.1 (only w h) in let z : ◌≡◌ {A = ℕ} 0 1 = cc in omega arith)
 
--- what a reader answers after its test, at each way of the test
-pub as-value :
-    {V : Type 0} (Value : List ℕ → V → Type 0) (c : List ℕ) (v : V) (t : Bool) → true ≡ t → ValueIn Value c (cond t (Some v) None)
-    → (Some v ≡ cond t (Some v) None) × Value c v
-as-value Value c v true e h = (refl, h)
-as-value Value c v false e h = let z : ◌≡◌ {A = ℕ} 0 1 = cc in absurd (omega arith)
-
-pub as_none :
-    {V : Type 0} (Value : List ℕ → V → Type 0) (c : List ℕ) (v : V) (t : Bool) → false ≡ t → ValueIn Value c (cond t (Some v) None)
-    → (None ≡ cond t (Some v) None) × ((w : V) → Value c w → ⊥)
-as_none Value c v false e h = (refl, h)
-as_none Value c v true e h = let z : ◌≡◌ {A = ℕ} 0 1 = cc in absurd (omega arith)
-
 boolean_here : (c : List ℕ) → BooleanContent c → BooleanValue c (eqb (get_or c 0 0) 255)
 boolean_here c (inl p) = p ∙ ap (λ (x : List ℕ). cond (eqb (get_or x 0 0) 255) 255 0 ∷ []) (sym p)
 boolean_here c (inr p) = p ∙ ap (λ (x : List ℕ). cond (eqb (get_or x 0 0) 255) 255 0 ∷ []) (sym p)

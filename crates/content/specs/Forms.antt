@@ -16,12 +16,16 @@ integer_form c =
     cond (nat_lt (length c) 2) (length c == 1)
     (cond (nat_lt (slice_index c 1) 128) (not (slice_index c 0 == 0)) (not (slice_index c 0 == 255)))
 
--- the count of unused bits, 0 to 7, and then the octets, whose unused bits are zero (X.690 8.6, 11.2)
+-- octets and a count of unused bits, 0 to 7, which are zeros at the end of the last octet; without octets there are none
+abbrev pub bits_formed : List ℕ → ℕ → Bool
+bits_formed o u =
+    cond (nat_lt 7 u) false
+    (cond (length o == 0) (u == 0) (slice_index o (length o - 1) % 2 ^ u == 0))
+
+-- the count of unused bits, and then the octets (X.690 8.6, 11.2)
 abbrev pub bits_form : List ℕ → Bool
-bits_form c =
-    cond (length c == 0) false
-    (cond (nat_lt 7 (slice_index c 0)) false
-    (cond (length c == 1) (slice_index c 0 == 0) (slice_index c (length c - 1) % 2 ^ slice_index c 0 == 0)))
+bits_form [] = false
+bits_form (u ∷ o) = bits_formed o u
 
 -- the rest of an OBJECT IDENTIFIER, where the next octet begins a number or goes on with one
 abbrev pub arcs : Bool → List ℕ → Bool

@@ -1,15 +1,14 @@
 // The contents of DER elements by their tags: which octets a content of each kind may have, and the typed
 // value that they write.
 //
-// `kind_of` says which tag is which, `check_form` whether a content has the form of its tag, and `read_boolean`,
+// `Kind::from` says which tag is which, `check_form` whether a content has the form of its tag, and `read_boolean`,
 // `read_integer`, `read_bit_string` and `read_oid` give the value. Each promises the exact answer for all octets, and that
 // a value has one content only. It rests on `moment` for the two kinds of time.
 #![tactic(auto)]
 
-ghost use Rattle.std.specs.Prelude.{◌≡◌, ℕ, ◌+◌, ◌<◌, ◌≤◌, true, length, is_some};
-ghost use Rattle.moment.specs.Times.{utc_of, generalized_of};
+ghost use Rattle.std.specs.Prelude.{◌≡◌, ℕ, ◌+◌, ◌<◌, ◌≤◌, true, cond, Ok, Err, length};
 ghost use Rattle.content.specs.Tags.{kind_of};
-ghost use Rattle.content.specs.Forms.{form_of, below128, boolean_form, integer_form, bits_form, oid_form};
+ghost use Rattle.content.specs.Forms.{form_of, boolean_form, integer_form, bits_formed, bits_form, oid_form};
 ghost use Rattle.content.specs.Grammar.{Checked, ValueIn, BooleanValue, IntegerValue, BitStringValue, OidValue, ValuesOneToOne};
 ghost use Rattle.content.specs.Values.{boolean_of, integer_seen, integer_of, bits_seen, bits_of, oid_seen, oid_of};
 
@@ -34,23 +33,27 @@ pub enum Kind {
     Other,
 }
 
-// Which tag is which.
-pub fn kind_of(tag: u8) -> Kind
-    ensures { result ≡ kind_of tag }
-{
-    match tag {
-        0x01 => Kind::Boolean,
-        0x02 => Kind::Integer,
-        0x03 => Kind::BitString,
-        0x04 => Kind::OctetString,
-        0x05 => Kind::Null,
-        0x06 => Kind::Oid,
-        0x16 => Kind::Ia5String,
-        0x17 => Kind::UtcTime,
-        0x18 => Kind::GeneralizedTime,
-        0x30 => Kind::Sequence,
-        0x31 => Kind::Set,
-        _ => Kind::Other,
+impl From<u8> for Kind {
+    ghost from_gives = { λ tag kind. kind ≡ kind_of tag };
+
+    // Which tag is which.
+    fn from(tag: u8) -> Kind
+        ensures { result ≡ kind_of tag }
+    {
+        match tag {
+            0x01 => Kind::Boolean,
+            0x02 => Kind::Integer,
+            0x03 => Kind::BitString,
+            0x04 => Kind::OctetString,
+            0x05 => Kind::Null,
+            0x06 => Kind::Oid,
+            0x16 => Kind::Ia5String,
+            0x17 => Kind::UtcTime,
+            0x18 => Kind::GeneralizedTime,
+            0x30 => Kind::Sequence,
+            0x31 => Kind::Set,
+            _ => Kind::Other,
+        }
     }
 }
 
@@ -73,22 +76,6 @@ fn is_integer(content: &[u8]) -> bool
     }
 }
 
-fn is_bit_string(content: &[u8]) -> bool
-    ensures { result ≡ bits_form content.now }
-{
-    if content.is_empty() {
-        return false;
-    }
-    let unused = content[0];
-    if unused > 7 {
-        return false;
-    }
-    if content.len() == 1 {
-        return unused == 0;
-    }
-    content[content.len() - 1] % (1 << unused) == 0
-}
-
 fn is_oid(content: &[u8]) -> bool
     ensures { result ≡ oid_form content.now }
 {
@@ -105,51 +92,28 @@ fn is_oid(content: &[u8]) -> bool
     begins
 }
 
-fn is_ascii(content: &[u8]) -> bool
-    ensures { result ≡ below128 content.now }
+// That a form holds, or the breach of it.
+fn formed_or(formed: bool, breach: Breach) -> Result<(), Breach>
+    ensures { result ≡ cond formed (Ok tt) (Err breach) }
 {
-    for octet in content {
-        if *octet >= 0x80 {
-            return false;
-        }
-    }
-    true
-}
-
-fn is_utc_time(content: &[u8]) -> bool
-    ensures { result ≡ is_some (utc_of content.now) }
-{
-    match utc_time(content) {
-        Some(_) => true,
-        None => false,
-    }
-}
-
-fn is_generalized_time(content: &[u8]) -> bool
-    ensures { result ≡ is_some (generalized_of content.now) }
-{
-    match generalized_time(content) {
-        Some(_) => true,
-        None => false,
-    }
+    if formed { Ok(()) } else { Err(breach) }
 }
 
 // Whether a content has the form of its kind, or how it breaks it.
 fn form_of(kind: Kind, content: &[u8]) -> Result<(), Breach>
     ensures { result ≡ form_of kind content.now }
 {
-    let (formed, breach) = match kind {
-        Kind::Boolean => (is_boolean(content), Breach::Boolean),
-        Kind::Integer => (is_integer(content), Breach::Integer),
-        Kind::BitString => (is_bit_string(content), Breach::BitString),
-        Kind::Null => (content.is_empty(), Breach::Null),
-        Kind::Oid => (is_oid(content), Breach::Oid),
-        Kind::Ia5String => (is_ascii(content), Breach::Ia5String),
-        Kind::UtcTime => (is_utc_time(content), Breach::Time),
-        Kind::GeneralizedTime => (is_generalized_time(content), Breach::Time),
-        _ => return Ok(()),
-    };
-    if formed { Ok(()) } else { Err(breach) }
+    match kind {
+        Kind::Boolean => formed_or(is_boolean(content), Breach::Boolean),
+        Kind::Integer => formed_or(is_integer(content), Breach::Integer),
+        Kind::BitString => formed_or(read_bit_string(content).is_some(), Breach::BitString),
+        Kind::Null => formed_or(content.is_empty(), Breach::Null),
+        Kind::Oid => formed_or(is_oid(content), Breach::Oid),
+        Kind::Ia5String => formed_or(content.is_ascii(), Breach::Ia5String),
+        Kind::UtcTime => formed_or(utc_time(content).is_some(), Breach::Time),
+        Kind::GeneralizedTime => formed_or(generalized_time(content).is_some(), Breach::Time),
+        Kind::OctetString | Kind::Sequence | Kind::Set | Kind::Other => Ok(()),
+    }
 }
 
 // Whether a content has the form that its tag asks for, or how it breaks it.
@@ -157,7 +121,7 @@ pub fn check_form(tag: u8, content: &[u8]) -> Result<(), Breach>
     ensures value { result ≡ form_of (kind_of tag) content.now }
     ensures grammar { Checked (kind_of tag) content.now result }
 {
-    form_of(kind_of(tag), content)
+    form_of(Kind::from(tag), content)
 }
 
 // The value of a BOOLEAN.
@@ -165,10 +129,8 @@ pub fn read_boolean(content: &[u8]) -> Option<bool>
     ensures value { result ≡ boolean_of content.now }
     ensures grammar { ValueIn BooleanValue content.now result }
 {
-    if !is_boolean(content) {
-        return None;
-    }
-    Some(content[0] == 0xff)
+    let first = content.first()?;
+    is_boolean(content).then_some(*first == 0xff)
 }
 
 // An INTEGER: its octets in two's complement, the highest first, and whether it lies below zero.
@@ -183,12 +145,10 @@ pub fn read_integer<'a>(content: &'a [u8]) -> Option<Integer<'a>>
     ensures value { integer_seen result ≡ integer_of content.now }
     ensures grammar { ValueIn IntegerValue content.now (integer_seen result) }
 {
-    if !is_integer(content) {
-        return None;
-    }
-    Some(Integer {
+    let first = content.first()?;
+    is_integer(content).then_some(Integer {
         octets: content,
-        negative: content[0] >= 0x80,
+        negative: *first >= 0x80,
     })
 }
 
@@ -199,18 +159,32 @@ pub struct BitString<'a> {
     pub unused: u8,
 }
 
+impl BitString<'_> {
+    // Whether the count is 0 to 7 and the unused bits are zeros, and without octets there are none.
+    pub fn is_formed(self) -> bool
+        ensures { result ≡ bits_formed self.entry.octets.now self.entry.unused }
+    {
+        if self.unused > 7 {
+            return false;
+        }
+        match self.octets.last() {
+            Some(last) => *last % (1 << self.unused) == 0,
+            None => self.unused == 0,
+        }
+    }
+}
+
 // The value of a BIT STRING.
 pub fn read_bit_string<'a>(content: &'a [u8]) -> Option<BitString<'a>>
     ensures value { bits_seen result ≡ bits_of content.now }
     ensures grammar { ValueIn BitStringValue content.now (bits_seen result) }
 {
-    if !is_bit_string(content) {
-        return None;
-    }
-    Some(BitString {
-        octets: &content[1..],
-        unused: content[0],
-    })
+    let (unused, octets) = content.split_first()?;
+    let bits = BitString {
+        octets,
+        unused: *unused,
+    };
+    bits.is_formed().then_some(bits)
 }
 
 // An OBJECT IDENTIFIER: its numbers in base 128.
@@ -224,11 +198,7 @@ pub fn read_oid<'a>(content: &'a [u8]) -> Option<Oid<'a>>
     ensures value { oid_seen result ≡ oid_of content.now }
     ensures grammar { ValueIn OidValue content.now (oid_seen result) }
 {
-    if is_oid(content) {
-        Some(Oid { octets: content })
-    } else {
-        None
-    }
+    is_oid(content).then_some(Oid { octets: content })
 }
 
 // No content has two values, and no value two contents, for each kind that has a typed value.

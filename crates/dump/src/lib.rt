@@ -8,7 +8,7 @@
 
 ghost use Rattle.std.specs.Prelude.{◌≡◌, ◌≤◌, string_bytes};
 
-use content::{BitString, Integer, Kind, kind_of, read_bit_string, read_boolean, read_integer};
+use content::{BitString, Integer, Kind, read_bit_string, read_boolean, read_integer};
 use hex_text::push_octets;
 use moment::{Moment, generalized_time, utc_time};
 use std::alloc::{AllocError, Global};
@@ -312,7 +312,7 @@ fn push_value(
     octets: &[u8],
     all: bool,
 ) -> Result<(), AllocError> {
-    match kind_of(tag) {
+    match Kind::from(tag) {
         Kind::Boolean => match read_boolean(octets) {
             Some(true) => text.push_str("TRUE"),
             Some(false) => text.push_str("FALSE"),

@@ -1,13 +1,18 @@
 -- The numbers of bit strings, and the addresses at the two ends. Assumes nothing.
-use Rattle.std.proofs.Common.{◌≡◌, ℕ, zero, suc, ◌+◌, ◌-◌, ◌*◌, ◌/◌, ◌%◌, ◌^◌, ◌<◌, ◌≤◌, true, List, [], ◌∷◌, ◌++◌, length, get_or, take, replicate, Some, None, Decides, sym, refl, ap, ◌∙◌, subst, mul_assoc, arith, pow-add}
+use Rattle.std.proofs.Common.{◌≡◌, ℕ, zero, suc, ◌+◌, ◌-◌, ◌*◌, ◌/◌, ◌%◌, ◌^◌, ◌<◌, ◌≤◌, true, List, [], ◌∷◌, ◌++◌, length, get_or, take, drop, replicate, Some, None, Decides, sym, refl, ap, ◌∙◌, subst, mul_assoc, add-mul, mul-lt-mul_of_pos_right, arith, pow-add}
 use native.Mathlib.Nat.{pow-succ'}
+use Rattle.std.specs.Int.{w128, byte_worth, sum_through, from_be_bytes}
 use Rattle.std.specs.Int.Digits.{number_from_digits, number_from_digits_after}
-use Rattle.std.proofs.lemmas.Int.Digits.{number_after_append, number_more}
-use Rattle.std.proofs.lemmas.List.{length-append, length-replicate, take-replicate, take_all}
+use Rattle.std.proofs.lemmas.Int.Digits.{number_after_append, number_more, number_lt}
+use borrow.Rule.Slice.PartMut.{put_mid}
+use Rattle.std.proofs.lemmas.Slice.{take-put_mid, drop-put_mid}
+use Rattle.std.proofs.lemmas.List.{append_assoc, length-append, length-replicate, take-replicate, drop-replicate, take-append-drop, take_all}
 use Rattle.std.proofs.lemmas.Nat.{pow_pos, shl-shr, shr_high, mod_low}
+use Rattle.std.proofs.ByRecursion.{All-from_get_or}
 use Rattle.std.proofs.lemmas.Bool.Decides.{nat_tests}
 use Rattle.std.proofs.lemmas.Bool.{cond-true}
-use Rattle.prefixes.specs.Reading.{BitString, is_bit_string, bit_count, bits_number, last_octet, Readable, readable, low_of, high_of, low_end, high_end, LowEnd, HighEnd}
+use Rattle.content.specs.Forms.{bits_formed}
+use Rattle.prefixes.specs.Reading.{BitString, bit_count, bits_number, last_octet, Readable, readable, low_of, high_of, low_end, high_end, LowEnd, HighEnd}
 use Rattle.family.specs.Widths.{width}
 use Rattle.family.specs.declared.Family.{Family}
 use Rattle.family.specs.declared.Family.TheVariants.{Ipv4, Ipv6}
@@ -15,37 +20,36 @@ use Rattle.prefixes.proofs.Powers.{pow256, pow_width, mod256, multiple, block_en
 
 -- ---- octets with zeros after them
 
-zero_get : (m i : ℕ) → ◌≡◌ {A = ℕ} (get_or (replicate m 0) i 0) 0
-zero_get zero i = refl
-zero_get (suc m) zero = refl
-zero_get (suc m) (suc i) = zero_get m i
+-- sixteen octets as a number, by the worth of each
+worth : (i x : ℕ) → byte_worth i x ≡ x * 256 ^ i
+worth zero x = omega arith
+worth (suc i) x = refl
 
-pad_get : (o : List ℕ) (m i : ℕ) → get_or (o ++ replicate m 0) i 0 ≡ get_or o i 0
-pad_get [] m i = zero_get m i
-pad_get (x ∷ o) m zero = refl
-pad_get (x ∷ o) m (suc i) = pad_get o m i
+sum_is : (b : List ℕ) (m k : ℕ) → k < length b → k ≤ m → sum_through (λ i. byte_worth (m - i) (get_or b i 0)) k ≡ number_from_digits 256 (take (k + 1) b) * 256 ^ (m - k)
+sum_is b m zero h l =
+    let e = number_more 256 b 0 h in
+    let f : number_from_digits 256 (take (0 + 1) b) ≡ get_or b 0 0 = omega arith in
+    worth (m - 0) (get_or b 0 0) ∙ ap (λ x. x * 256 ^ (m - 0)) (sym f)
+sum_is b m (suc k) h l =
+    let n = number_from_digits 256 (take (k + 1) b) in
+    let x = get_or b (suc k) 0 in
+    let q = 256 ^ (m - suc k) in
+    let s : m - k ≡ suc (m - suc k) = omega arith in
+    let i : k + 1 ≡ suc k = omega arith in
+    let e = sum_is b m k (omega arith) (omega arith) in
+    let p : n * 256 ^ (m - k) ≡ n * 256 * q = ap (λ y. n * 256 ^ y) s ∙ ap (λ y. n * y) (pow-succ' 256 (m - suc k)) ∙ sym (mul_assoc n 256 q) in
+    let g = number_more 256 b (suc k) h in
+    let f : number_from_digits 256 (take (suc k + 1) b) ≡ n * 256 + x = g ∙ ap (λ y. number_from_digits 256 (take y b) * 256 + x) (sym i) in
+    let w = worth (m - suc k) x in
+    let d : (n * 256 + x) * q ≡ n * 256 * q + x * q = add-mul (n * 256) x q in
+    omega (arith, e, p, w, d, ap (λ y. y * q) f)
 
-pub pad_take : (o : List ℕ) (n m : ℕ) → length o ≤ n → n ≤ m → take n (o ++ replicate m 0) ≡ o ++ replicate (n - length o) 0
-pad_take [] n m h l = let e : n ≡ n - 0 = omega arith in take-replicate n m 0 l ∙ ap (λ k. replicate k 0) e
-pad_take (x ∷ o) zero m h l = absurd (omega arith)
-pad_take (x ∷ o) (suc n) m h l =
-    let e : n - length o ≡ suc n - suc (length o) = omega arith in
-    ap (λ xs. x ∷ xs) (pad_take o n m (omega arith) (omega arith) ∙ ap (λ k. o ++ replicate k 0) e)
-
--- one turn of the loop that reads them, where x is the octet at i or 0 past the last
-pub pad-more :
-    (o : List ℕ) (m i x a : ℕ) → i < m → x ≡ get_or o i 0 → a ≡ number_from_digits 256 (take i (o ++ replicate m 0))
-    → a * 256 + x ≡ number_from_digits 256 (take (i + 1) (o ++ replicate m 0))
-pad-more o m i x a h e f =
-    let p = o ++ replicate m 0 in
-    let l : i < length p = omega (arith, length-append o (replicate m 0), length-replicate {A = ℕ} m 0) in
-    let g = number_more 256 p i l in
-    let q = pad_get o m i in
-    omega arith
-
-pub pad_all : (w : ℕ) (o : List ℕ) (a : ℕ) → a ≡ number_from_digits 256 (take (w / 8) (o ++ replicate (w / 8) 0)) → length o ≤ w / 8 → a ≡ low_of w o
-unfolding low_of
-pad_all w o a e h = e ∙ ap (number_from_digits 256) (pad_take o (w / 8) (w / 8) h (omega arith))
+pub be_number : (b : List ℕ) → length b ≡ 16 → from_be_bytes w128 b ≡ number_from_digits 256 b
+be_number b h =
+    let e = sum_is b 15 15 (omega arith) (omega arith) in
+    let t : take (15 + 1) b ≡ b = take_all (15 + 1) b (omega arith) in
+    let f = ap (number_from_digits 256) t in
+    e ∙ omega arith
 
 number_zeros : (n j : ℕ) → number_from_digits_after 256 n (replicate j 0) ≡ n * 256 ^ j
 number_zeros n zero = omega arith
@@ -129,7 +133,7 @@ high_stands w o u h r l =
 
 -- ---- the tests
 
-pub bits_decide : (o : List ℕ) (u : ℕ) → Decides (is_bit_string o u) (BitString o u)
+pub bits_decide : (o : List ℕ) (u : ℕ) → Decides (bits_formed o u) (BitString o u)
 bits_decide o u = (
   λ t. record { few = grind (arith, nat_tests); none = grind (arith, nat_tests); zeros = grind (arith, nat_tests) },
   λ b. let few = b.few in let none = b.none in let zeros = b.zeros in grind (arith, nat_tests),
@@ -147,30 +151,68 @@ octets_fit w o u h r = let few = r.0.few in let l = r.1 in omega arith
 
 -- ---- what the readers answer
 
-pub pad-done :
-    (w b : ℕ) (o : List ℕ) (a i : ℕ) → b ≡ w → b % 8 ≡ 0 → i ≡ b / 8 → a ≡ number_from_digits 256 (take i (o ++ replicate (b / 8) 0)) → a < 256 ^ i
-    → (length o ≤ w / 8 → a ≡ low_of w o) × (a < 2 ^ w)
-pad-done w b o a i e h f p q =
-    let g : w % 8 ≡ 0 = omega arith in
-    let k : i ≡ w / 8 = omega arith in
-    let s : a ≡ number_from_digits 256 (take (w / 8) (o ++ replicate (w / 8) 0)) = p ∙ ap (λ x. number_from_digits 256 (take x (o ++ replicate (b / 8) 0))) k ∙ ap (λ x. number_from_digits 256 (take (w / 8) (o ++ replicate (x / 8) 0))) e in
-    (pad_all w o a s, subst (λ x. a < x) (ap (λ x. 256 ^ x) k ∙ pow_width w g) q)
+-- zeros in front do not count
+front_zeros : (j : ℕ) (xs : List ℕ) → number_from_digits 256 (replicate j 0 ++ xs) ≡ number_from_digits 256 xs
+front_zeros j xs = number_after_append 256 0 (replicate j 0) xs ∙ ap (λ n. number_from_digits_after 256 n xs) (number_zeros 0 j ∙ omega arith)
+
+-- octets that are written over zeros
+pub between_is :
+    (f : ℕ) (o y : List ℕ) → f + length o ≤ 16 → y ≡ o
+    → put_mid f (f + length o - f) (replicate 16 0) y ≡ replicate f 0 ++ (o ++ replicate (16 - f - length o) 0)
+between_is f o y h e =
+    let z : List ℕ = replicate 16 0 in
+    let n = f + length o in
+    let k : length y ≡ length o = ap length e in
+    let p : List ℕ = put_mid f (n - f) z y in
+    let l : f ≤ length z = omega arith in
+    let t : take n p ≡ take f z ++ y = take-put_mid f (n - f) z y n (omega arith) l in
+    let d : drop n p ≡ drop n z = drop-put_mid f (n - f) z y n (omega arith) l (omega arith) in
+    let s : 16 - n ≡ 16 - f - length o = omega arith in
+    let r : drop n z ≡ replicate (16 - f - length o) 0 = drop-replicate n 16 0 ∙ ap (λ j. replicate j 0) s in
+    let g : p ≡ (take f z ++ y) ++ drop n z = sym (take-append-drop n p) ∙ ap (λ (xs : List ℕ). xs ++ drop n p) t ∙ ap (λ (xs : List ℕ). (take f z ++ y) ++ xs) d in
+    let m : (take f z ++ y) ++ drop n z ≡ replicate f 0 ++ (y ++ drop n z) = append_assoc (take f z) y (drop n z) ∙ ap (λ (xs : List ℕ). xs ++ (y ++ drop n z)) (take-replicate f 16 0 l) in
+    g ∙ m ∙ ap (λ (xs : List ℕ). replicate f 0 ++ (y ++ xs)) r ∙ ap (λ (xs : List ℕ). replicate f 0 ++ (xs ++ replicate (16 - f - length o) 0)) e
+
+pub padded_is :
+    (w : ℕ) (o b : List ℕ) (a f : ℕ) → w ≤ 128 → length o ≤ w / 8 → f ≡ 16 - w / 8 → b ≡ replicate f 0 ++ (o ++ replicate (16 - f - length o) 0)
+    → a ≡ from_be_bytes w128 b → a ≡ low_of w o
+unfolding low_of
+padded_is w o b a f m l g e r =
+    let k : 16 - f - length o ≡ w / 8 - length o = omega arith in
+    let front : List ℕ = replicate f 0 in
+    let back : List ℕ = replicate (16 - f - length o) 0 in
+    let n : length b ≡ 16 =
+    omega (arith, ap length e, length-append front (o ++ back), length-append o back, length-replicate {A = ℕ} f 0, length-replicate {A = ℕ} (16 - f - length o) 0) in
+    r
+    ∙ be_number b n
+    ∙ ap (number_from_digits 256) e
+    ∙ front_zeros f (o ++ replicate (16 - f - length o) 0)
+    ∙ ap (λ x. number_from_digits 256 (o ++ replicate x 0)) k
+
+pub low_below : (w : ℕ) (o : List ℕ) → w % 8 ≡ 0 → length o ≤ w / 8 → ((i : ℕ) → get_or o i 0 < 256) → low_of w o < 2 ^ w
+low_below w o h l f =
+    let j = w / 8 - length o in
+    let n : number_from_digits 256 o < 256 ^ length o = number_lt 256 o (All-from_get_or (λ d. d < 256) o 0 (λ i _. f i)) in
+    let p = pow_pos (8 * j) in
+    let q : 0 < 256 ^ j = omega (arith, pow256 j) in
+    let m : number_from_digits 256 o * 256 ^ j < 256 ^ length o * 256 ^ j = mul-lt-mul_of_pos_right n q in
+    let s : length o + j ≡ w / 8 = omega arith in
+    let e : 256 ^ length o * 256 ^ j ≡ 2 ^ w = sym (pow-add 256 (length o) j) ∙ ap (λ x. 256 ^ x) s ∙ pow_width w h in
+    omega (arith, low_number w o, m, e)
 
 pub low-answer :
-    (w : ℕ) (o : List ℕ) (u a : ℕ) → w % 8 ≡ 0 → true ≡ readable w o u → (length o ≤ w / 8 → a ≡ low_of w o) → a < 2 ^ w
+    (w : ℕ) (o : List ℕ) (u a : ℕ) → w % 8 ≡ 0 → true ≡ readable w o u → a ≡ low_of w o → a < 2 ^ w
     → (Some a ≡ low_end w o u) × LowEnd w o u a
-low-answer w o u a h t f l =
+low-answer w o u a h t e l =
     let r = (readable_decides w o u).0 (sym t) in
-    let e = f (octets_fit w o u h r) in
     (ap Some e ∙ sym (cond-true (readable w o u) (Some (low_of w o)) None (sym t)), subst (LowEnd w o u) (sym e) (low_stands w o u h r (subst (λ x. x < 2 ^ w) e l)))
 
 pub high-answer :
-    (w : ℕ) (o : List ℕ) (u a k m : ℕ) → w % 8 ≡ 0 → true ≡ readable w o u → (length o ≤ w / 8 → a ≡ low_of w o) → a < 2 ^ w
+    (w : ℕ) (o : List ℕ) (u a k m : ℕ) → w % 8 ≡ 0 → true ≡ readable w o u → a ≡ low_of w o → a < 2 ^ w
     → k ≡ w - 8 * length o + u → m + 1 ≡ 2 ^ k → (Some (a + m) ≡ high_end w o u) × HighEnd w o u (a + m)
-high-answer w o u a k m h t f l p q =
+high-answer w o u a k m h t e l p q =
     let r = (readable_decides w o u).0 (sym t) in
     let fit = octets_fit w o u h r in
-    let e = f fit in
     let g : k ≡ w - bit_count o u = omega (arith, after_bits w o u h r) in
     let n : m + 1 ≡ 2 ^ (w - bit_count o u) = q ∙ ap (λ x. 2 ^ x) g in
     let s : a + m ≡ high_of w o u = omega arith in

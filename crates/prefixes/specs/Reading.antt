@@ -2,6 +2,7 @@
 -- for ranges. An address is a number below 2 ^ w, w its count of bits. Assumes nothing.
 use Rattle.std.specs.Prelude.{◌≡◌, ℕ, ◌+◌, ◌-◌, ◌*◌, ◌/◌, ◌%◌, ◌^◌, ◌<◌, ◌≤◌, Bool, cond, ◌&&◌, ◌||◌, List, ◌++◌, length, replicate, Some, None, Decides, Option, ◌==◌, nat_le, nat_lt, slice_index}
 use Rattle.std.specs.Int.Digits.{number_from_digits}
+use Rattle.content.specs.Forms.{bits_formed}
 
 -- The last octet, and 0 where there is none.
 abbrev pub last_octet : List ℕ → ℕ
@@ -13,10 +14,6 @@ pub record BitString (o : List ℕ) (u : ℕ) : Type 0 where
   pub few : u ≤ 7
   pub none : length o ≡ 0 → u ≡ 0
   pub zeros : last_octet o % 2 ^ u ≡ 0
-
--- `BitString` as a test.
-abbrev pub is_bit_string : List ℕ → ℕ → Bool
-is_bit_string o u = nat_le u 7 && ((nat_lt 0 (length o) || u == 0) && last_octet o % 2 ^ u == 0)
 
 -- How many bits a bit string has.
 abbrev pub bit_count : List ℕ → ℕ → ℕ
@@ -30,9 +27,9 @@ bits_number o u = number_from_digits 256 o / 2 ^ u
 abbrev pub Readable : ℕ → List ℕ → ℕ → Type 0
 Readable w o u = BitString o u × (bit_count o u ≤ w)
 
--- `Readable` as a test.
+-- `Readable` as a test; `bits_formed` is `BitString` as one.
 abbrev pub readable : ℕ → List ℕ → ℕ → Bool
-readable w o u = is_bit_string o u && nat_le (bit_count o u) w
+readable w o u = bits_formed o u && nat_le (bit_count o u) w
 
 -- The bits, and then zeros up to the width.
 unfoldable pub low_of : ℕ → List ℕ → ℕ

@@ -1,8 +1,8 @@
 // The bit strings of RFC 3779: how prefixes and the ends of ranges of IPv4 and IPv6 addresses are read and written.
 //
-// An address is a number below 2 to the power of its width, and a bit string is octets with a count of unused bits at the end
-// of the last. `low_end` and `high_end` follow the bits with zeros or with ones up to the width, and answer none exactly where
-// the octets and the count are no bit string, or one of more bits than an address has; `ends_in_one` tells the last bit.
+// An address is a number below 2 to the power of its width, and a `content::BitString` is octets with a count of unused bits at
+// the end of the last. `low_end` and `high_end` follow the bits with zeros or with ones up to the width, and answer none exactly
+// where the octets and the count are no bit string, or one of more bits than an address has; `ends_in_one` tells the last bit.
 // `is_prefix` tells the ranges that are one prefix, and `bit_count_prefix` how many bits these are written with;
 // `bit_count_low` and `bit_count_high` give the fewest bits that the ends of another range are written with, and `octet_count`,
 // `unused` and `octet_at` the bit string of so many bits of an address. What is written is read back, no range has two bit
@@ -10,46 +10,41 @@
 // digits alone, as the files of specs/ state them.
 #![tactic(auto)]
 
-ghost use Rattle.std.specs.Prelude.{◌≡◌, ◌+◌, ◌-◌, ◌*◌, ◌/◌, ◌%◌, ◌^◌, ◌<◌, ◌≤◌, true, length, IfSome, Decides, MatchOption, ◌==◌, slice_index};
+ghost use Rattle.std.specs.Prelude.{◌≡◌, ◌+◌, ◌-◌, ◌*◌, ◌/◌, ◌%◌, ◌^◌, ◌<◌, ◌≤◌, true, ◌++◌, length, replicate, IfSome, Decides, MatchOption, ◌==◌, slice_index};
 ghost use Rattle.family.specs.Widths.{width};
-ghost use Rattle.prefixes.specs.Reading.{is_bit_string, readable, Readable, low_of, low_end, high_end, LowEnd, HighEnd, last_bit, LastBit};
+ghost use Rattle.prefixes.specs.Reading.{readable, Readable, low_of, low_end, high_end, LowEnd, HighEnd, last_bit, LastBit};
 ghost use Rattle.prefixes.specs.Ranges.{zero_tail, one_tail, shared_tail, one_prefix, OnePrefix};
 ghost use Rattle.prefixes.specs.Writing.{prefix_count, low_count, high_count, BeforeZeros, BeforeOnes, octets_for, unused_for, bits_of};
 ghost use Rattle.prefixes.specs.Theorems.{HasOctets, ReadsBack, PrefixReadsBack, RangeReadsBack, OneEncoding, OneBitString, IsOnePrefix, FewestBits};
 
+use content::BitString;
 use family::Family;
 
-// Whether octets and a count of unused bits are a bit string.
-fn is_bit_string(octets: &[u8], unused: u8) -> bool
-    ensures { result ≡ is_bit_string octets.now unused }
+// Whether they are a bit string of no more bits than an address has.
+fn is_readable(bits: BitString<'_>, family: Family) -> bool
+    ensures { result ≡ readable (width family) bits.entry.octets.now bits.entry.unused }
 {
-    if unused > 7 {
-        return false;
-    }
-    if octets.is_empty() {
-        return unused == 0;
-    }
-    octets[octets.len() - 1] % (1 << unused) == 0
+    bits.is_formed() && bits.octets.len() <= usize::from(family.width() / 8)
 }
 
-// Whether they are a bit string of no more bits than an address has.
-fn is_readable(octets: &[u8], unused: u8, family: Family) -> bool
-    ensures { result ≡ readable (width family) octets.now unused }
+// Sixteen octets: zeros in front, then these, and zeros after them.
+fn between_zeros(front: usize, octets: &[u8]) -> [u8; 16]
+    requires { front + length octets.now ≤ 16 }
+    ensures { result ≡ replicate front 0 ++ (octets.now ++ replicate (16 - front - length octets.now) 0) }
 {
-    is_bit_string(octets, unused) && octets.len() <= usize::from(family.width() / 8)
+    let mut all = [0; 16];
+    all[front..front + octets.len()].copy_from_slice(octets);
+    all
 }
 
 // The octets, and then zeros up to the width, as one number.
 fn padded(octets: &[u8], family: Family) -> u128
-    ensures value { length octets.now ≤ width family / 8 → result ≡ low_of (width family) octets.now }
+    requires { length octets.now ≤ width family / 8 }
+    ensures value { result ≡ low_of (width family) octets.now }
     ensures bound { result < 2 ^ width family }
 {
-    let mut address: u128 = 0;
-    for i in 0..usize::from(family.width() / 8) {
-        let octet = if i < octets.len() { octets[i] } else { 0 };
-        address = address * 256 + u128::from(octet);
-    }
-    address
+    let front = 16 - usize::from(family.width() / 8);
+    u128::from_be_bytes(between_zeros(front, octets))
 }
 
 // The number of `count` ones.
@@ -65,41 +60,41 @@ fn ones(count: u32) -> u128
 }
 
 // The address that begins with the bits, and has zeros after them.
-pub fn low_end(octets: &[u8], unused: u8, family: Family) -> Option<u128>
-    ensures value { result ≡ low_end (width family) octets.now unused }
-    ensures relation { MatchOption result (Readable (width family) octets.now unused → ⊥) (λ a. LowEnd (width family) octets.now unused a) }
+pub fn low_end(bits: BitString<'_>, family: Family) -> Option<u128>
+    ensures value { result ≡ low_end (width family) bits.entry.octets.now bits.entry.unused }
+    ensures relation { MatchOption result (Readable (width family) bits.entry.octets.now bits.entry.unused → ⊥) (λ a. LowEnd (width family) bits.entry.octets.now bits.entry.unused a) }
     ensures bound { IfSome result (λ a. a < 2 ^ width family) }
 {
-    if is_readable(octets, unused, family) {
-        Some(padded(octets, family))
+    if is_readable(bits, family) {
+        Some(padded(bits.octets, family))
     } else {
         None
     }
 }
 
 // The address that begins with the bits, and has ones after them.
-pub fn high_end(octets: &[u8], unused: u8, family: Family) -> Option<u128>
-    ensures value { result ≡ high_end (width family) octets.now unused }
-    ensures relation { MatchOption result (Readable (width family) octets.now unused → ⊥) (λ a. HighEnd (width family) octets.now unused a) }
+pub fn high_end(bits: BitString<'_>, family: Family) -> Option<u128>
+    ensures value { result ≡ high_end (width family) bits.entry.octets.now bits.entry.unused }
+    ensures relation { MatchOption result (Readable (width family) bits.entry.octets.now bits.entry.unused → ⊥) (λ a. HighEnd (width family) bits.entry.octets.now bits.entry.unused a) }
     ensures bound { IfSome result (λ a. a < 2 ^ width family) }
 {
-    if !is_readable(octets, unused, family) {
+    if !is_readable(bits, family) {
         return None;
     }
-    let rest = u32::from(family.width()) - 8 * octets.len() as u32 + u32::from(unused);
-    Some(padded(octets, family) + ones(rest))
+    let rest = u32::from(family.width()) - 8 * bits.octets.len() as u32 + u32::from(bits.unused);
+    Some(padded(bits.octets, family) + ones(rest))
 }
 
 // Whether the last bit of a bit string is one, and none where it has no bit.
-pub fn ends_in_one(octets: &[u8], unused: u8) -> Option<bool>
-    ensures value { result ≡ last_bit octets.now unused }
-    ensures relation { LastBit octets.now unused result }
+pub fn ends_in_one(bits: BitString<'_>) -> Option<bool>
+    ensures value { result ≡ last_bit bits.entry.octets.now bits.entry.unused }
+    ensures relation { LastBit bits.entry.octets.now bits.entry.unused result }
 {
-    if octets.is_empty() || unused > 7 {
+    let last = bits.octets.last()?;
+    if bits.unused > 7 {
         return None;
     }
-    let last = octets[octets.len() - 1];
-    Some((last >> unused) % 2 == 1)
+    Some((*last >> bits.unused) % 2 == 1)
 }
 
 // How many bits at the end of an address are zeros.

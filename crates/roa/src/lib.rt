@@ -78,7 +78,7 @@ fn prefix_in(content: &[u8], family: Family) -> Option<Prefix>
     ensures { result ≡ prefix_of family content.now }
 {
     let bits = read_bit_string(content)?;
-    let low = low_end(bits.octets, bits.unused, family)?;
+    let low = low_end(bits, family)?;
     Some(Prefix {
         family,
         address: top(family, low),

@@ -11,5 +11,5 @@ pub returns : goal.returns
 returns c =
     let s = c.args.content.now in
     let k = kind_of c.args.tag in
-    let v : c.form_of.result ≡ form_of k s = c.form_of.ensures ∙ ap (λ (x : Kind). form_of x s) c.kind_of.ensures in
+    let v : c.form_of.result ≡ form_of k s = c.form_of.ensures ∙ ap (λ (x : Kind). form_of x s) c.from.ensures in
     record { value = v; grammar = subst (λ (r : Result (Unit {0}) Breach). Checked k s r) (sym v) (form_checked k s) }

@@ -1,16 +1,11 @@
-use Rattle.content.specs.Forms.{oid_form}
-use Rattle.content.specs.Grammar.{OidValue}
-use Rattle.content.proofs.Valued.{as-value, as_none, oid_valued}
+use Rattle.std.proofs.Common.{◌≡◌, sym, subst, rules}
+use Rattle.content.specs.Values.{oid_seen, oid_of}
+use Rattle.content.specs.Grammar.{ValueIn, OidValue}
+use Rattle.content.proofs.Valued.{oid_valued}
 use Rattle.content.proofs.read_oid.Goals as goal
 
-pub returns-else-is_oid : goal.returns-else-is_oid
-returns-else-is_oid c =
+pub returns : goal.returns
+returns c =
     let s = c.args.content.now in
-    let p = as_none OidValue s s (oid_form s) c.if-is_oid.ensures (oid_valued s) in
-    record { value = p.0; grammar = p.1 }
-
-pub returns-then-is_oid : goal.returns-then-is_oid
-returns-then-is_oid c =
-    let s = c.args.content.now in
-    let p = as-value OidValue s s (oid_form s) c.if-is_oid.ensures (oid_valued s) in
-    record { value = p.0; grammar = p.1 }
+    let v : oid_seen c.then_some.result ≡ oid_of s = search rules in
+    record { value = v; grammar = subst (ValueIn OidValue s) (sym v) (oid_valued s) }

@@ -6,12 +6,12 @@ use Rattle.prefixes.proofs.high_end.Goals as goal
 
 answer :
     (c : goal.After-ones)
-    → (Some (c.padded.result + c.ones.result) ≡ high_end (width c.args.family) c.args.octets.now c.args.unused)
-    × HighEnd (width c.args.family) c.args.octets.now c.args.unused (c.padded.result + c.ones.result)
+    → (Some (c.padded.result + c.ones.result) ≡ high_end (width c.args.family) c.args.bits.octets.now c.args.bits.unused)
+    × HighEnd (width c.args.family) c.args.bits.octets.now c.args.bits.unused (c.padded.result + c.ones.result)
 answer c =
     let v = c.args.family in
     let e = c.padded.ensures in
-    high-answer (width v) c.args.octets.now c.args.unused c.padded.result _ c.ones.result (whole v)
+    high-answer (width v) c.args.bits.octets.now c.args.bits.unused c.padded.result _ c.ones.result (whole v)
     c.if-not-is_readable.ensures e.value e.bound (omega arith) c.ones.ensures
 
 pub overflow_add-result : goal.overflow_add-result
