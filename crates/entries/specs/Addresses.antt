@@ -43,14 +43,18 @@ high_half w b = cond (ends_high (last_bit b.0 b.1)) (high_end w b.0 b.1) None
 abbrev pub is_range : ℕ → ℕ → ℕ → ℕ → Result (Unit {0}) Report
 is_range w place a z = cond (nat_lt a z && not (one_prefix w a z)) (Ok tt) (broken Set Value place)
 
--- the two halves of a range, and the octets after them
+-- the two halves of a range, each an element of a tag, and the octets after them
+abbrev pub ends_of : ℕ → (List ℕ → Option ℕ) → (List ℕ → Option ℕ) → (ℕ → ℕ → ℕ → Result (Unit {0}) Report) → Octets → Result (ℕ × ℕ × Octets) Report
+ends_of tag low high stand q =
+    then_read (expect_of Set tag q) (λ first.
+    then_read (given first.0.place (low first.0.content)) (λ a.
+    then_read (expect_of Set tag first.1) (λ last.
+    then_read (given last.0.place (high last.0.content)) (λ z.
+    then_read (stand last.0.place a z) (λ _. Ok (a, z, last.1))))))
+
+-- the two addresses of a range, and the octets after them
 abbrev pub halves_of : ℕ → Octets → Result (ℕ × ℕ × Octets) Report
-halves_of w q =
-    then_read (expect_of Set 3 q) (λ low.
-    then_read (given low.0.place (then_some (bits_of low.0.content) (low_half w))) (λ a.
-    then_read (expect_of Set 3 low.1) (λ high.
-    then_read (given high.0.place (then_some (bits_of high.0.content) (high_half w))) (λ z.
-    then_read (is_range w high.0.place a z) (λ _. Ok (a, z, high.1))))))
+halves_of w q = ends_of 3 (λ c. then_some (bits_of c) (low_half w)) (λ c. then_some (bits_of c) (high_half w)) (is_range w) q
 
 -- the two halves of a range, and nothing after them
 abbrev pub pair_of : ℕ → Octets → Result (ℕ × ℕ) Report

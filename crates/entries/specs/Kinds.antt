@@ -1,9 +1,10 @@
 -- The ranges of each kind that an entry says, from the numbers of its ends. Assumes nothing.
-use Rattle.std.specs.Prelude.{ℕ, ◌/◌, ◌%◌, Ok, Err, Result}
+use Rattle.std.specs.Prelude.{ℕ, Ok, Err, Result}
 use Rattle.fault.specs.declared.Report.{Report}
 use Rattle.element.specs.Reading.{Seen}
 use Rattle.points.specs.declared.V4.{V4}
 use Rattle.points.specs.declared.V6.{V6}
+use Rattle.points.specs.Ranks.{v6_of}
 use Rattle.ranges.specs.declared.Range.{Range}
 use Rattle.points.specs.declared.Asn.{Asn}
 use Rattle.entries.specs.Addresses.{address_entry}
@@ -11,10 +12,6 @@ use Rattle.entries.specs.Numbers.{number_entry}
 
 abbrev pub v4_of : ℕ → V4
 v4_of n = record { word = n }
-
--- the upper and the lower 64 bits
-abbrev pub v6_of : ℕ → V6
-v6_of n = record { high = n / 18446744073709551616; low = n % 18446744073709551616 }
 
 -- a range by its two numbers
 abbrev pub between : {P : Type 0} → (ℕ → P) → Result (ℕ × ℕ) Report → Result (Range P) Report

@@ -1,3 +1,4 @@
 pub mod Addresses
 pub mod Numbers
 pub mod Kinds
+pub mod Forms

@@ -5,8 +5,8 @@ use Rattle.fault.specs.declared.Rule.TheVariants.{Structure, Value}
 use Rattle.fault.specs.declared.Layer.TheVariants.{Set}
 use Rattle.fault.specs.declared.Report.{Report}
 use Rattle.element.specs.Reading.{Seen, Octets}
-use Rattle.layout.specs.Expecting.{broken, then_read, expect_of, end_of}
-use Rattle.entries.specs.Addresses.{given, inside}
+use Rattle.layout.specs.Expecting.{broken, then_read, end_of}
+use Rattle.entries.specs.Addresses.{given, ends_of, inside}
 
 -- a number of 32 bits
 abbrev pub below32 : ℕ → Option ℕ
@@ -22,12 +22,7 @@ ascend place a z = cond (nat_lt a z) (Ok tt) (broken Set Value place)
 
 -- the two numbers of a range, and the octets after them
 abbrev pub numbers_of : Octets → Result (ℕ × ℕ × Octets) Report
-numbers_of q =
-    then_read (expect_of Set 2 q) (λ low.
-    then_read (given low.0.place (as_number low.0.content)) (λ a.
-    then_read (expect_of Set 2 low.1) (λ high.
-    then_read (given high.0.place (as_number high.0.content)) (λ z.
-    then_read (ascend high.0.place a z) (λ _. Ok (a, z, high.1))))))
+numbers_of q = ends_of 2 as_number as_number ascend q
 
 -- the two numbers of a range, and nothing after them
 abbrev pub number_pair : Octets → Result (ℕ × ℕ) Report

@@ -2,9 +2,9 @@
 use Rattle.std.proofs.Common.{◌≡◌, ℕ, ◌+◌, ◌*◌, ◌/◌, ◌%◌, ◌^◌, ◌<◌, refl, ap, ◌∙◌, arith}
 use Rattle.family.specs.declared.Family.TheVariants as family
 use Rattle.points.specs.declared.V6.{V6}
-use Rattle.points.specs.Ranks.{v4_rank, v4_fits, v6_rank, v6_fits}
+use Rattle.points.specs.Ranks.{v4_rank, v4_fits, v6_rank, v6_fits, v6_of}
 use Rattle.entries.specs.Addresses.{address_entry}
-use Rattle.entries.specs.Kinds.{v4_of, v6_of, v4_entry, v6_entry}
+use Rattle.entries.specs.Kinds.{v4_of, v4_entry, v6_entry}
 use Rattle.entry_text.specs.Texts.{address_text, v4_text, v6_text}
 use Rattle.entry_text.specs.Laws.{EntryLaws}
 use Rattle.entry_text.proofs.Points.{laws}

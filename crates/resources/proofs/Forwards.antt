@@ -9,11 +9,11 @@ use Rattle.element.specs.Reading.{Seen, Octets}
 use Rattle.layout.specs.Expecting.{broken, expect_of, end_of}
 use Rattle.prefixes.specs.Reading.{readable, low_of, high_of, low_end, high_end, bit_count}
 use Rattle.prefixes.specs.Ranges.{one_prefix}
-use Rattle.points.specs.Ranks.{v4_rank, v6_rank, asn_rank}
+use Rattle.points.specs.Ranks.{v4_rank, v6_rank, asn_rank, v6_of}
 use Rattle.ranges.specs.declared.Range.{Range}
 use Rattle.entries.specs.Addresses.{then_some, given, prefix_ends, low_half, high_half, is_range, halves_of, pair_of, inside, address_entry}
 use Rattle.entries.specs.Numbers.{as_number, ascend, numbers_of, number_pair, alone, number_entry}
-use Rattle.entries.specs.Kinds.{v4_of, v6_of, asn_of, between, v4_entry, v6_entry, asn_entry}
+use Rattle.entries.specs.Kinds.{v4_of, asn_of, between, v4_entry, v6_entry, asn_entry}
 use Rattle.resources.proofs.Steps.{then_ok, cond_ok}
 use Rattle.resources.proofs.Rows.{Forward}
 
