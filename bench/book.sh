@@ -7,13 +7,11 @@ here=$(cd "$(dirname "$0")" && pwd)
 top=$(dirname "$here")
 work=$(mktemp -d)
 trap 'rm -rf "$work"' EXIT
-mkdir -p "$work/crates/bench_book/src" "$work/crates/bench_book/proofs/ask_all"
+mkdir -p "$work/crates/bench_book/src"
 # the sources alone, without what checks left beside them
 (cd "$top/crates" && tar -cf - --exclude=out oracle record book book_index) | tar -xf - -C "$work/crates"
 cp "$here/book/main.rt.txt" "$work/crates/bench_book/src/main.rt"
-cp "$here/book/ask_all-Invariants.antt.txt" "$work/crates/bench_book/proofs/ask_all/Invariants.antt"
-cp "$here/book/ask_all-Answers.antt.txt" "$work/crates/bench_book/proofs/ask_all/Answers.antt"
-printf 'oracle:\nrecord:\nbook: oracle record\nbook_index: oracle record book\nbench_book: oracle record book book_index anyhow\n' > "$work/crates.txt"
+printf 'oracle:\nrecord: oracle\nbook: oracle record\nbook_index: oracle record book\nbench_book: oracle record book book_index anyhow\n' > "$work/crates.txt"
 cd "$work"
 git init -q .
 python3 "$here/book/make_book.py" book.bin

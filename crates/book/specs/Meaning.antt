@@ -1,5 +1,6 @@
 -- What a verdict book answers, by its records. Assumes nothing.
-use Rattle.std.specs.Prelude.{ℕ, Bool, false, cond, ◌&&◌, ◌||◌, List, [], ◌∷◌, Some, None, Option}
+use Rattle.std.specs.Prelude.{ℕ, Bool, false, cond, ◌&&◌, List, [], ◌∷◌, Some, None, Option}
+use Rattle.std.specs.List.{list_any}
 use Rattle.std.specs.Option.{option_or}
 use Rattle.std.specs.Str.{bytes_eq}
 use Rattle.oracle.specs.Meaning.{Digests, Verdicts}
@@ -22,8 +23,7 @@ first_digest s (r ∷ rs) = option_or (digest_said s r) (first_digest s rs)
 
 -- some record says yes
 abbrev pub some_verdict : List ℕ → List ℕ → List ℕ → List Entry → Bool
-some_verdict k m g [] = false
-some_verdict k m g (r ∷ rs) = yes_said k m g r || some_verdict k m g rs
+some_verdict k m g rs = list_any (yes_said k m g) rs
 
 -- the meaning of a book: by its whole records
 abbrev pub book_digest : List ℕ → Digests

@@ -1,20 +1,20 @@
 // The verdict book as an oracle: it answers what its records say, and nothing else.
 //
 // A `Book` lies over the octets of a verdict book. The first record of kind 44 with the same octets gives their
-// digest, and a signature is good exactly where an equal record of kind 59 stands among the records; what stands
+// digest, and a claim is good exactly where an equal record of kind 59 stands among the records; what stands
 // after the last whole record says nothing. Each question walks over the records by their lengths, and compares
 // a record's octets only where the lengths agree. It rests on `record` for the format and on `oracle` for what an
 // oracle is.
 #![tactic(auto)]
 
 ghost use Rattle.std.specs.Prelude.{◌≡◌};
-ghost use Rattle.std.specs.Str.{bytes_eq};
+ghost use Rattle.oracle.specs.Meaning.{answer_on};
 ghost use Rattle.record.specs.Views.{record_seen};
 ghost use Rattle.book.specs.Meaning.{digest_said, yes_said, book_digest, book_verdict};
 ghost use Rattle.book.specs.Promises.{YesIsARecord, DigestIsTheFirst, UnknownIsNoRecord, NoVerdictRecordNoYes, AlwaysNoIsNoBookWithAVerdict, AnswersDependOnRecordsOnly, AppendedOctetsKeepAnswers};
 
-use oracle::Oracle;
-use record::{Record, read_record};
+use oracle::{Claim, Oracle};
+use record::{Record, Records};
 
 // A verdict book over its octets.
 #[derive(Clone, Copy)]
@@ -22,73 +22,41 @@ pub struct Book<'a> {
     pub octets: &'a [u8],
 }
 
-// Whether two runs of octets are the same: of other lengths they are not.
-pub fn same(a: &[u8], b: &[u8]) -> bool
-    ensures { result ≡ bytes_eq a.now b.now }
-{
-    a == b
-}
-
 // What one record says of the digest of some octets.
 fn digest_said(found: Record<'_>, octets: &[u8]) -> Option<[u8; 32]>
     ensures { result ≡ digest_said octets.now (record_seen found.entry) }
 {
     match found {
-        Record::Digest {
-            octets: known,
-            digest,
-        } => {
-            if same(known, octets) {
-                Some(digest)
-            } else {
-                None
-            }
-        }
-        Record::Verdict { .. } => None,
+        Record::Digest(known) if known.octets == octets => Some(known.digest),
+        _ => None,
     }
 }
 
-// Whether one record says yes to a key, a message and a signature. Signatures differ soonest.
-fn yes_said(found: Record<'_>, key: &[u8], message: &[u8], signature: &[u8]) -> bool
-    ensures { result ≡ yes_said key.now message.now signature.now (record_seen found.entry) }
+// Whether one record says yes to a claim.
+fn yes_said(found: Record<'_>, claim: Claim<'_>) -> bool
+    ensures { result ≡ yes_said claim.entry.key.now claim.entry.message.now claim.entry.signature.now (record_seen found.entry) }
 {
-    match found {
-        Record::Digest { .. } => false,
-        Record::Verdict {
-            key: k,
-            message: m,
-            signature: g,
-        } => same(g, signature) && same(m, message) && same(k, key),
-    }
+    found == Record::Verdict(claim)
 }
 
 // The digest that the first record with these octets gives.
 fn first_digest(book: &[u8], octets: &[u8]) -> Option<[u8; 32]>
     ensures { result ≡ book_digest book.now octets.now }
 {
-    let mut rest = book;
-    while let Some(reading) = read_record(rest) {
-        let said = digest_said(reading.record, octets);
+    for found in Records::of(book) {
+        let said = digest_said(found, octets);
         if said.is_some() {
             return said;
         }
-        rest = reading.rest;
     }
     None
 }
 
-// Whether some record has this key, message and signature.
-fn some_verdict(book: &[u8], key: &[u8], message: &[u8], signature: &[u8]) -> bool
-    ensures { result ≡ book_verdict book.now key.now message.now signature.now }
+// Whether some record says yes to this claim.
+fn some_verdict(book: &[u8], claim: Claim<'_>) -> bool
+    ensures { result ≡ answer_on (book_verdict book.now) claim.entry }
 {
-    let mut rest = book;
-    while let Some(reading) = read_record(rest) {
-        if yes_said(reading.record, key, message, signature) {
-            return true;
-        }
-        rest = reading.rest;
-    }
-    false
+    Records::of(book).any(|found| yes_said(found, claim))
 }
 
 impl Oracle for Book<'_> {
@@ -100,8 +68,8 @@ impl Oracle for Book<'_> {
         first_digest(self.octets, octets)
     }
 
-    fn verifies(&self, key: &[u8], message: &[u8], signature: &[u8]) -> bool {
-        some_verdict(self.octets, key, message, signature)
+    fn verifies(&self, claim: Claim<'_>) -> bool {
+        some_verdict(self.octets, claim)
     }
 }
 

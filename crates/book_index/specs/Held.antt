@@ -2,34 +2,25 @@
 use Rattle.std.specs.Prelude.{◌≡◌, ℕ, List, [], ◌∷◌, ◌++◌, map, vec_items}
 use Rattle.oracle.specs.Meaning.{Digests, Verdicts, SameVerdicts}
 use Rattle.record.specs.Format.{Entry}
-use Rattle.record.specs.Format as format
 use Rattle.record.specs.declared.Record.{Record}
 use Rattle.record.specs.declared.Record.TheVariants.{Digest, Verdict}
+use Rattle.record.specs.Views.{known_seen, claim_seen}
 use Rattle.book.specs.Meaning.{first_digest, some_verdict, book_digest, book_verdict}
-use Rattle.book_index.specs.declared.Known.{Known}
-use Rattle.book_index.specs.declared.Signed.{Signed}
 use Rattle.book_index.specs.declared.Index.{Index}
-
--- a record that the index holds, as octets
-abbrev pub known_seen : Known → Entry
-known_seen k = format.Known k.octets.now k.digest
-
-abbrev pub signed_seen : Signed → Entry
-signed_seen s = format.Signed s.key.now s.message.now s.signature.now
 
 -- the records that an index holds, by their kind
 abbrev pub known_in : Index → List Entry
 known_in i = map known_seen (vec_items i.known)
 
 abbrev pub signed_in : Index → List Entry
-signed_in i = map signed_seen (vec_items i.signed)
+signed_in i = map claim_seen (vec_items i.signed)
 
 -- one more record is listed, after those of its kind
 abbrev pub Listed : Index → Index → Record → Type 0
-Listed i j (Digest o d) =
-    (vec_items j.known ≡ vec_items i.known ++ record { octets = o; digest = d } ∷ []) × (vec_items j.signed ≡ vec_items i.signed)
-Listed i j (Verdict k m g) =
-    (vec_items j.known ≡ vec_items i.known) × (vec_items j.signed ≡ vec_items i.signed ++ record { key = k; message = m; signature = g } ∷ [])
+Listed i j (Digest known) =
+    (vec_items j.known ≡ vec_items i.known ++ known ∷ []) × (vec_items j.signed ≡ vec_items i.signed)
+Listed i j (Verdict claim) =
+    (vec_items j.known ≡ vec_items i.known) × (vec_items j.signed ≡ vec_items i.signed ++ claim ∷ [])
 
 -- the meaning of an index: by the records that it holds, as a book's is by its records
 abbrev pub index_digest : Index → Digests

@@ -7,65 +7,35 @@
 #![tactic(auto)]
 
 ghost use Rattle.std.specs.Prelude.{◌≡◌, map, IfOk, OnOk};
-ghost use Rattle.book.specs.Meaning.{yes_said, first_digest, some_verdict};
-ghost use Rattle.book_index.specs.Held.{known_seen, signed_seen, index_digest, index_verdict, Listed, AnswersAs};
+ghost use Rattle.oracle.specs.Meaning.{answer_on};
+ghost use Rattle.record.specs.Views.{known_seen, claim_seen};
+ghost use Rattle.book.specs.Meaning.{first_digest, some_verdict};
+ghost use Rattle.book_index.specs.Held.{index_digest, index_verdict, Listed, AnswersAs};
 
-use book::same;
-use oracle::Oracle;
-use record::{Record, read_record};
+use oracle::{Claim, Oracle};
+use record::{KnownDigest, Record, Records};
 use std::alloc::{AllocError, Global};
-
-// A record of kind 44: octets, and their digest.
-#[derive(Clone, Copy)]
-struct Known<'a> {
-    octets: &'a [u8],
-    digest: [u8; 32],
-}
-
-// A record of kind 59: a key, a message, and a signature that is good.
-#[derive(Clone, Copy)]
-struct Signed<'a> {
-    key: &'a [u8],
-    message: &'a [u8],
-    signature: &'a [u8],
-}
 
 // The records of a book by their kind, in its order.
 #[derive(Drop)]
 pub struct Index<'a> {
-    known: Vec<Known<'a>>,
-    signed: Vec<Signed<'a>>,
+    known: Vec<KnownDigest<'a>>,
+    signed: Vec<Claim<'a>>,
 }
 
 // The digest that the first of these records with the same octets gives.
-fn find_digest(known: &[Known<'_>], octets: &[u8]) -> Option<[u8; 32]>
+fn find_digest(known: &[KnownDigest<'_>], octets: &[u8]) -> Option<[u8; 32]>
     ensures { result ≡ first_digest octets.now (map known_seen known.now) }
 {
-    for k in known {
-        if same(k.octets, octets) {
-            return Some(k.digest);
-        }
-    }
-    None
+    let found = known.iter().find(|k| k.octets == octets)?;
+    Some(found.digest)
 }
 
-// Whether a record has this key, message and signature. Signatures differ soonest.
-fn is_verdict(s: Signed<'_>, key: &[u8], message: &[u8], signature: &[u8]) -> bool
-    ensures { result ≡ yes_said key.now message.now signature.now (signed_seen s.entry) }
+// Whether this claim is one of those that were found good.
+fn find_verdict(signed: &[Claim<'_>], claim: Claim<'_>) -> bool
+    ensures { result ≡ answer_on (λ k m g. some_verdict k m g (map claim_seen signed.now)) claim.entry }
 {
-    same(s.signature, signature) && same(s.message, message) && same(s.key, key)
-}
-
-// Whether one of these records has this key, message and signature.
-fn find_verdict(signed: &[Signed<'_>], key: &[u8], message: &[u8], signature: &[u8]) -> bool
-    ensures { result ≡ some_verdict key.now message.now signature.now (map signed_seen signed.now) }
-{
-    for s in signed {
-        if is_verdict(*s, key, message, signature) {
-            return true;
-        }
-    }
-    false
+    signed.contains(&claim)
 }
 
 impl<'a> Index<'a> {
@@ -74,16 +44,8 @@ impl<'a> Index<'a> {
         ensures { OnOk result (Listed self.old self.new found.entry) }
     {
         match found {
-            Record::Digest { octets, digest } => self.known.push(Known { octets, digest })?,
-            Record::Verdict {
-                key,
-                message,
-                signature,
-            } => self.signed.push(Signed {
-                key,
-                message,
-                signature,
-            })?,
+            Record::Digest(known) => self.known.push(known)?,
+            Record::Verdict(claim) => self.signed.push(claim)?,
         }
         Ok(())
     }
@@ -96,10 +58,8 @@ impl<'a> Index<'a> {
             known: Vec::new(heap),
             signed: Vec::new(heap),
         };
-        let mut rest = book;
-        while let Some(reading) = read_record(rest) {
-            index.list(reading.record)?;
-            rest = reading.rest;
+        for found in Records::of(book) {
+            index.list(found)?;
         }
         Ok(index)
     }
@@ -114,7 +74,7 @@ impl Oracle for Index<'_> {
         find_digest(self.known.as_slice(), octets)
     }
 
-    fn verifies(&self, key: &[u8], message: &[u8], signature: &[u8]) -> bool {
-        find_verdict(self.signed.as_slice(), key, message, signature)
+    fn verifies(&self, claim: Claim<'_>) -> bool {
+        find_verdict(self.signed.as_slice(), claim)
     }
 }

@@ -7,7 +7,7 @@ use entry_writer::WrittenResource;
 use list_answers::{addresses_answer, asn_answer, join_answer, write_answer};
 use list_log::{Call, Line, read_line};
 use list_text::read_list;
-use oracle::Scheme;
+use oracle::{Claim, Scheme};
 use point_text::PointText;
 use points::{Asn, V4, V6};
 use ranges::{MOST, Range};
@@ -29,21 +29,15 @@ fn ask_digest(rt: &HostRuntime, oracle: OracleWord<'_>, octets: &[u8]) -> Result
 }
 
 // Asks an oracle for a verdict.
-fn ask_verdict(
-    rt: &HostRuntime,
-    oracle: OracleWord<'_>,
-    key: &[u8],
-    message: &[u8],
-    signature: &[u8],
-) -> Result<String, Stop> {
+fn ask_verdict(rt: &HostRuntime, oracle: OracleWord<'_>, claim: Claim<'_>) -> Result<String, Stop> {
     match oracle {
-        OracleWord::Scheme => Ok(verdict_answer(rt.alloc(), &Scheme, key, message, signature)?),
+        OracleWord::Scheme => Ok(verdict_answer(rt.alloc(), &Scheme, claim)?),
         OracleWord::Book(word) => {
             let book = find_octets(rt, word)?;
             let oracle = Book {
                 octets: book.as_slice(),
             };
-            Ok(verdict_answer(rt.alloc(), &oracle, key, message, signature)?)
+            Ok(verdict_answer(rt.alloc(), &oracle, claim)?)
         },
     }
 }
@@ -119,13 +113,12 @@ fn run_call(rt: &HostRuntime, call: Call<'_>) -> Result<String, Stop> {
             let key = find_octets(rt, key)?;
             let message = find_octets(rt, message)?;
             let signature = find_octets(rt, signature)?;
-            ask_verdict(
-                rt,
-                oracle,
-                key.as_slice(),
-                message.as_slice(),
-                signature.as_slice(),
-            )
+            let claim = Claim {
+                key: key.as_slice(),
+                message: message.as_slice(),
+                signature: signature.as_slice(),
+            };
+            ask_verdict(rt, oracle, claim)
         },
         Call::Join { kind, one, other } => match kind {
             Kind::V4 => ask_join::<V4>(rt, one, other),

@@ -1,5 +1,6 @@
 -- What an oracle means, as two functions of octets, and what is promised of the meanings here. Assumes nothing.
 use Rattle.std.specs.Prelude.{◌≡◌, ℕ, Bool, false, List, length, None, Option}
+use Rattle.oracle.specs.declared.Claim.{Claim}
 use Rattle.oracle.specs.Scheme.{scheme_digest, scheme_verdict}
 
 -- the digest of some octets, or none where it is not known
@@ -9,6 +10,10 @@ Digests = List ℕ → Option (List ℕ)
 -- yes or no on a key, a message and a signature
 abbrev pub Verdicts : Type 0
 Verdicts = List ℕ → List ℕ → List ℕ → Bool
+
+-- the answer to a claim: to its key, its message and its signature
+abbrev pub answer_on : Verdicts → Claim → Bool
+answer_on v claim = v claim.key.now claim.message.now claim.signature.now
 
 -- who knows nothing
 abbrev pub silent_digest : Digests

@@ -1,7 +1,7 @@
 // Oracles: who answers for digests and signatures, by one fixed meaning.
 //
 // An `Oracle` means two functions: the digest of some octets, or none, and the verdict on a key, a message and a
-// signature. Its methods promise to answer exactly by them, for all octets, and no question changes them, so
+// signature, which come together as a `Claim`. Its methods promise to answer exactly by them, for all octets, and no question changes them, so
 // what is proved of code over `O: Oracle` holds for every implementation. `Scheme` is the test scheme, whose
 // digest is the exclusive-or of the blocks of 32 octets, and `Silent` says no to all. `vouches` is a caller. It
 // rests on nothing but the standard library.
@@ -10,21 +10,30 @@
 ghost use Rattle.std.specs.Prelude.{◌≡◌, ℕ, ◌<◌, Bool, true, false, List, ◌++◌, replicate, Some, None, Decides, Option};
 ghost use Rattle.oracle.specs.Runs.{xor_run};
 ghost use Rattle.oracle.specs.Scheme.{scheme_digest, scheme_verdict};
-ghost use Rattle.oracle.specs.Meaning.{silent_digest, silent_verdict, AlwaysNoIsNotTheScheme, SchemeDigestsHave32Octets};
+ghost use Rattle.oracle.specs.Meaning.{answer_on, silent_digest, silent_verdict, AlwaysNoIsNotTheScheme, SchemeDigestsHave32Octets};
+
+// What is asked about a signature: whether it is one by the key on the message. The signature stands first, since
+// `==` compares in this order, and signatures differ soonest.
+#[derive(Clone, Copy, PartialEq, Eq)]
+pub struct Claim<'a> {
+    pub signature: &'a [u8],
+    pub message: &'a [u8],
+    pub key: &'a [u8],
+}
 
 // Who answers for digests and signatures.
 pub trait Oracle {
     // The digest of some octets, 32 octets, or none where it is not known.
     ghost digest_of: { Self → List ℕ → Option (List ℕ) };
 
-    // Whether the signature is one by the key on the message: key, message, signature.
+    // The verdict on a claim: key, message, signature.
     ghost verdict_on: { Self → List ℕ → List ℕ → List ℕ → Bool };
 
     fn digest(&self, octets: &[u8]) -> Option<[u8; 32]>
         ensures { result ≡ digest_of self.now octets.now };
 
-    fn verifies(&self, key: &[u8], message: &[u8], signature: &[u8]) -> bool
-        ensures { result ≡ verdict_on self.now key.now message.now signature.now };
+    fn verifies(&self, claim: Claim<'_>) -> bool
+        ensures { result ≡ answer_on (verdict_on self.now) claim.entry };
 }
 
 // Takes the octets up into the block, from the place `from` on, and answers the next place.
@@ -72,9 +81,8 @@ impl Oracle for Scheme {
         Some(digest_of_both(octets, &[]))
     }
 
-    fn verifies(&self, key: &[u8], message: &[u8], signature: &[u8]) -> bool {
-        let block = digest_of_both(key, message);
-        signature == &block[0..32]
+    fn verifies(&self, claim: Claim<'_>) -> bool {
+        claim.signature == digest_of_both(claim.key, claim.message).as_slice()
     }
 }
 
@@ -91,35 +99,23 @@ impl Oracle for Silent {
         None
     }
 
-    fn verifies(&self, _key: &[u8], _message: &[u8], _signature: &[u8]) -> bool {
+    fn verifies(&self, _claim: Claim<'_>) -> bool {
         false
     }
 }
 
-// Whether the oracle says yes to the signature on the message and gives the stated digest for the message.
-pub fn vouches<O: Oracle>(
-    oracle: &O,
-    key: &[u8],
-    message: &[u8],
-    signature: &[u8],
-    stated: [u8; 32],
-) -> bool
-    ensures { Decides result ((O.verdict_on oracle.now key.now message.now signature.now ≡ true) × (O.digest_of oracle.now message.now ≡ Some stated)) }
+// Whether the oracle says yes to the claim and gives the stated digest for its message.
+pub fn vouches<O: Oracle>(oracle: &O, claim: Claim<'_>, stated: [u8; 32]) -> bool
+    ensures { Decides result ((answer_on (O.verdict_on oracle.now) claim.entry ≡ true) × (O.digest_of oracle.now claim.entry.message.now ≡ Some stated)) }
 {
-    if !oracle.verifies(key, message, signature) {
-        return false;
-    }
-    match oracle.digest(message) {
-        Some(digest) => digest == stated,
-        None => false,
-    }
+    oracle.verifies(claim) && oracle.digest(claim.message) == Some(stated)
 }
 
 // The generic caller at the test scheme: its bound is met.
-pub fn scheme_vouches(key: &[u8], message: &[u8], signature: &[u8], stated: [u8; 32]) -> bool
-    ensures { Decides result ((scheme_verdict key.now message.now signature.now ≡ true) × (scheme_digest message.now ≡ stated)) }
+pub fn scheme_vouches(claim: Claim<'_>, stated: [u8; 32]) -> bool
+    ensures { Decides result ((answer_on scheme_verdict claim.entry ≡ true) × (scheme_digest claim.entry.message.now ≡ stated)) }
 {
-    vouches(&Scheme, key, message, signature, stated)
+    vouches(&Scheme, claim, stated)
 }
 
 // Whoever always says no does not answer by the test scheme.

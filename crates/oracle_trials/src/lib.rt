@@ -6,15 +6,24 @@ mod tests {
     use book::Book;
     use book_index::Index;
     use book_writer::{write_digest, write_verdict};
-    use oracle::{Oracle, Scheme};
+    use oracle::{Claim, Oracle, Scheme};
     use std::alloc::Global;
     use std::test::Fail;
+
+    // The claim that a signature is one by a key on a message.
+    fn claim_of<'a>(key: &'a [u8], message: &'a [u8], signature: &'a [u8]) -> Claim<'a> {
+        Claim {
+            signature,
+            message,
+            key,
+        }
+    }
 
     // A book of two digests of the same octets, one of none, and one verdict.
     fn written(heap: Global) -> Result<Vec<u8>, Fail> {
         let mut book = Vec::new(heap);
         write_digest(&mut book, b"ab", &[1; 32])?;
-        write_verdict(&mut book, b"key", b"message", b"sig")?;
+        write_verdict(&mut book, claim_of(b"key", b"message", b"sig"))?;
         write_digest(&mut book, b"ab", &[2; 32])?;
         write_digest(&mut book, b"", &[3; 32])?;
         Ok(book)
@@ -30,14 +39,17 @@ mod tests {
         assert!(rt; book.digest(b"") == Some([3; 32]), "no octets");
         assert!(rt; book.digest(b"a").is_none(), "unknown octets");
         assert!(rt;
-            book.verifies(b"key", b"message", b"sig"),
+            book.verifies(claim_of(b"key", b"message", b"sig")),
             "an equal record"
         );
         assert!(rt;
-            !book.verifies(b"key", b"messagf", b"sig"),
+            !book.verifies(claim_of(b"key", b"messagf", b"sig")),
             "one octet differs"
         );
-        assert!(rt; !book.verifies(b"keym", b"essage", b"sig"), "another cut");
+        assert!(rt;
+            !book.verifies(claim_of(b"keym", b"essage", b"sig")),
+            "another cut"
+        );
         Ok(())
     }
 
@@ -49,14 +61,17 @@ mod tests {
         assert!(rt; index.digest(b"") == Some([3; 32]), "no octets");
         assert!(rt; index.digest(b"a").is_none(), "unknown octets");
         assert!(rt;
-            index.verifies(b"key", b"message", b"sig"),
+            index.verifies(claim_of(b"key", b"message", b"sig")),
             "an equal record"
         );
         assert!(rt;
-            !index.verifies(b"key", b"messagf", b"sig"),
+            !index.verifies(claim_of(b"key", b"messagf", b"sig")),
             "one octet differs"
         );
-        assert!(rt; !index.verifies(b"keym", b"essage", b"sig"), "another cut");
+        assert!(rt;
+            !index.verifies(claim_of(b"keym", b"essage", b"sig")),
+            "another cut"
+        );
         Ok(())
     }
 
@@ -69,11 +84,11 @@ mod tests {
         );
         assert!(rt; Scheme.digest(&[7; 32]) == Some([7; 32]), "one block");
         assert!(rt;
-            Scheme.verifies(&[1; 32], &[2; 32], &[3; 32]),
+            Scheme.verifies(claim_of(&[1; 32], &[2; 32], &[3; 32])),
             "a good signature"
         );
         assert!(rt;
-            !Scheme.verifies(&[1; 32], &[2; 32], &[3; 31]),
+            !Scheme.verifies(claim_of(&[1; 32], &[2; 32], &[3; 31])),
             "a short one"
         );
     }

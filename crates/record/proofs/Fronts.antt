@@ -1,8 +1,11 @@
 -- What a field or a record that was read says of the octets, and that octets after it change nothing. Assumes nothing.
-use Rattle.std.proofs.Common.{◌≡◌, ℕ, suc, ◌+◌, ◌-◌, ◌<◌, ◌≤◌, Bool, true, false, cond, eqb, leb, List, [], ◌∷◌, ◌++◌, length, get_or, take, drop, Some, None, Option, sym, refl, ap, ◌∙◌, arith}
-use Rattle.std.proofs.lemmas.List.{length-append, length-drop, take-append-le, drop-append-le, get_or_append_left, take_rest}
-use Rattle.std.proofs.lemmas.Bool.{le-leb, leb-true, cond-true, false≢true}
-use Rattle.record.specs.Format.{Entry, Known, Signed, Front, then_read, length_at, end_of, field_of, digest_only, digest_record, verdict_record, record_by, record_of}
+use Rattle.std.proofs.Common.{◌≡◌, ℕ, suc, ◌+◌, ◌<◌, ◌≤◌, Bool, true, false, cond, eqb, leb, List, [], ◌∷◌, ◌++◌, length, take, drop, Some, None, Option, sym, refl, ap, ◌∙◌, arith}
+use Rattle.std.proofs.lemmas.List.{length-append, length-drop, take-append-le, drop-append-le, get_or_append_left}
+use Rattle.std.proofs.lemmas.Bool.{le-leb, leb-true, cond-true, cond-false, ne_eqb}
+use Rattle.std.specs.List.{IsFirstAndRest}
+use Rattle.record.specs.declared.Kind.TheVariants.{Digest, Verdict}
+use Rattle.record.specs.Views.{StandsForNone}
+use Rattle.record.specs.Format.{Entry, Known, Signed, Front, then_read, length_at, field_of, digest_only, digest_record, verdict_record, record_of}
 
 pub some_same : {A : Type 0} {a b : A} → Some a ≡ Some b → a ≡ b
 some_same e = cc
@@ -25,17 +28,6 @@ pair {b} {c} {d} {e} p q = ap (λ (x : List ℕ). (x, d)) p ∙ ap (λ (x : List
 pub field_at : (s : List ℕ) (n : ℕ) → length_at s ≡ n → 3 + n ≤ length s → field_of s ≡ Some (take n (drop 3 s), drop (3 + n) s)
 field_at s n e h =
     ap (λ (m : ℕ). cond (leb (3 + m) (length s)) (Some (take m (drop 3 s), drop (3 + m) s)) None) e ∙ cond-true _ _ _ (le-leb (3 + n) (length s) h)
-
--- as the reader cuts it out
-field_cut : (s : List ℕ) → 3 + length_at s ≤ length s → Some (take (3 + length_at s - 3) (drop 3 s), take (length s - (3 + length_at s)) (drop (3 + length_at s) s)) ≡ field_of s
-field_cut s h =
-    let e : 3 + length_at s - 3 ≡ length_at s = omega arith in
-    ap Some (pair (ap (λ (m : ℕ). take m (drop 3 s)) e) (take_rest s (3 + length_at s))) ∙ sym (field_at s (length_at s) refl h)
-
-pub field_ends : (s : List ℕ) (n : ℕ) → Some n ≡ end_of s → Some (take (n - 3) (drop 3 s), take (length s - n) (drop n s)) ≡ field_of s
-field_ends s n e =
-    let w = when_some (leb (3 + length_at s) (length s)) (3 + length_at s) n (sym e) in
-    ap (λ (m : ℕ). Some (take (m - 3) (drop 3 s), take (length s - m) (drop m s))) w.1 ∙ field_cut s (leb-true _ _ w.0)
 
 pub field_some : (s : List ℕ) (p : List ℕ × List ℕ) → field_of s ≡ Some p → (3 + length_at s ≤ length s) × (p ≡ (take (length_at s) (drop 3 s), drop (3 + length_at s) s))
 field_some s p e =
@@ -131,7 +123,7 @@ record_extends (k ∷ s) t q e = by_kind (eqb k 0x44) (eqb k 0x59) e
     by_kind false true e = verdict_extends s t q e
     by_kind false false e = absurd (none_some e)
 
--- the record of some octets by the kind that stands first
-pub record_by_lem : (s : List ℕ) (k : ℕ) → false ≡ eqb (length s) 0 → get_or s 0 0 ≡ k → record_of s ≡ record_by k (take (length s - 1) (drop 1 s))
-record_by_lem [] k h e = absurd (false≢true h)
-record_by_lem (x ∷ s) k h e = ap (λ (n : ℕ). record_by n s) e ∙ ap (record_by k) (sym (take_rest (x ∷ s) 1))
+-- no record begins with an octet that stands for no kind
+pub no_record : (s : List ℕ) (k : ℕ) (t : List ℕ) → IsFirstAndRest s k t → StandsForNone k → record_of s ≡ None
+no_record s k t e h =
+    ap record_of e.0 ∙ cond-false _ _ _ (ne_eqb k 0x44 (λ z. h Digest (sym z))) ∙ cond-false _ _ _ (ne_eqb k 0x59 (λ z. h Verdict (sym z)))

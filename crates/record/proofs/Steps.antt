@@ -1,6 +1,10 @@
 -- The records of a book, one by one, and those of a book with octets after it. Assumes nothing.
-use Rattle.std.proofs.Common.{◌≡◌, ℕ, zero, suc, ◌<◌, ◌≤◌, List, [], ◌∷◌, ◌++◌, length, Some, None, sym, refl, ap, ◌∙◌, arith}
+use Rattle.std.proofs.Common.{◌≡◌, ℕ, zero, suc, ◌<◌, ◌≤◌, List, [], ◌∷◌, ◌++◌, length, Some, None, Option, sym, refl, ap, ◌∙◌, arith}
 use Rattle.record.specs.Format.{Entry, Front, record_of, listed, remaining, records_of, rest_of, records, leftover}
+use Rattle.std.specs.Iterator.{YieldsFirstBy}
+use Rattle.record.specs.declared.Record.{Record}
+use Rattle.record.specs.declared.Records.{Records}
+use Rattle.record.specs.Views.{record_seen, records_left}
 use Rattle.record.proofs.Fronts.{record_shorter, record_extends}
 
 listed_same : (o : Front Entry) (f g : List ℕ → List Entry) → ((q : Entry × List ℕ) → o ≡ Some q → f q.1 ≡ g q.1) → listed o f ≡ listed o g
@@ -94,3 +98,8 @@ leftover_ends =
     by_records (λ s. record_of (leftover s) ≡ None)
     (λ s e. ap record_of (leftover_none s e) ∙ e)
     (λ s q e ih. ap record_of (leftover_some s q e) ∙ ih)
+
+-- where no record is left, none comes
+pub yields_none : (s : Records) (r : Option Record) → r ≡ None → None ≡ record_of s.rest.now → YieldsFirstBy record_seen records_left s r s
+yields_none s None e f = (records_none s.rest.now (sym f), records_none s.rest.now (sym f))
+yields_none s (Some x) e f = absurd (cc)

@@ -19,10 +19,6 @@ then_read None next = None
 abbrev pub length_at : List ℕ → ℕ
 length_at s = slice_index s 0 * 0x10000 + slice_index s 1 * 0x100 + slice_index s 2
 
--- where the field at the front ends: after a length in three octets, and that many octets
-abbrev pub end_of : List ℕ → Option ℕ
-end_of s = cond (nat_le (3 + length_at s) (length s)) (Some (3 + length_at s)) None
-
 -- a field: a length in three octets, and that many octets
 abbrev pub field_of : List ℕ → Front (List ℕ)
 field_of s = cond (nat_le (3 + length_at s) (length s)) (Some (take (length_at s) (drop 3 s), drop (3 + length_at s) s)) None

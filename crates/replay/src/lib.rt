@@ -7,13 +7,14 @@
 
 ghost use Rattle.std.specs.Prelude.{◌≡◌, IfOk, Ok, string_bytes};
 ghost use Rattle.hex_text.specs.Digits.{hex_text};
+ghost use Rattle.oracle.specs.Meaning.{answer_on};
 ghost use Rattle.element.specs.Reading.{seen, octets_of, read_of};
 ghost use Rattle.replay.specs.Answers.{fault_line, element_answer, digest_line, digest_answer, verdict_answer};
 
 use element::{Element, Part, read_first};
 use fault::Fault;
 use hex_text::push_octets;
-use oracle::Oracle;
+use oracle::{Claim, Oracle};
 use std::alloc::{AllocError, Global};
 
 // Octets in hexadecimal.
@@ -83,21 +84,16 @@ pub fn digest_answer<O: Oracle>(
 fn verdict_line(yes: bool) -> &'static str
     ensures { result.now ≡ verdict_answer yes }
 {
-    match yes {
-        true => "verdict yes\n",
-        false => "verdict no\n",
-    }
+    if yes { "verdict yes\n" } else { "verdict no\n" }
 }
 
 // The answer of `verdict ORACLE KEY MESSAGE SIGNATURE`.
 pub fn verdict_answer<O: Oracle>(
     heap: Global,
     oracle: &O,
-    key: &[u8],
-    message: &[u8],
-    signature: &[u8],
+    claim: Claim<'_>,
 ) -> Result<String, AllocError>
-    ensures { IfOk result (λ s. string_bytes s ≡ verdict_answer (O.verdict_on oracle.now key.now message.now signature.now)) }
+    ensures { IfOk result (λ s. string_bytes s ≡ verdict_answer (answer_on (O.verdict_on oracle.now) claim.entry)) }
 {
-    String::from_str(heap, verdict_line(oracle.verifies(key, message, signature)))
+    String::from_str(heap, verdict_line(oracle.verifies(claim)))
 }

@@ -3,6 +3,7 @@ use super::files::{Failure, first_line, read_log};
 use super::lines::{Stop, find_octets, tell_line};
 use book_writer::{write_digest, write_verdict};
 use log_lines::{Why, Words};
+use oracle::Claim;
 use std::fs;
 
 // Appends the record of a line `digest OCTETS DIGEST`, from its arguments.
@@ -25,12 +26,12 @@ fn add_verdict(rt: &HostRuntime, words: &mut Words<'_>, book: &mut Vec<u8>) -> R
     let message = find_octets(rt, words.octets()?)?;
     let signature = find_octets(rt, words.octets()?)?;
     words.end()?;
-    write_verdict(
-        book,
-        key.as_slice(),
-        message.as_slice(),
-        signature.as_slice(),
-    )?;
+    let claim = Claim {
+        key: key.as_slice(),
+        message: message.as_slice(),
+        signature: signature.as_slice(),
+    };
+    write_verdict(book, claim)?;
     Ok(())
 }
 

@@ -3,7 +3,7 @@ use super::files::{Failure, first_line, flush, read_log};
 use super::lines::{Stop, find_octets, tell_line};
 use book::Book;
 use log_lines::{Call, Line, OracleWord, read_line};
-use oracle::Scheme;
+use oracle::{Claim, Scheme};
 use replay::{digest_answer, element_answer, verdict_answer};
 
 // Asks an oracle for a digest.
@@ -21,21 +21,15 @@ fn ask_digest(rt: &HostRuntime, oracle: OracleWord<'_>, octets: &[u8]) -> Result
 }
 
 // Asks an oracle for a verdict.
-fn ask_verdict(
-    rt: &HostRuntime,
-    oracle: OracleWord<'_>,
-    key: &[u8],
-    message: &[u8],
-    signature: &[u8],
-) -> Result<String, Stop> {
+fn ask_verdict(rt: &HostRuntime, oracle: OracleWord<'_>, claim: Claim<'_>) -> Result<String, Stop> {
     match oracle {
-        OracleWord::Scheme => Ok(verdict_answer(rt.alloc(), &Scheme, key, message, signature)?),
+        OracleWord::Scheme => Ok(verdict_answer(rt.alloc(), &Scheme, claim)?),
         OracleWord::Book(word) => {
             let book = find_octets(rt, word)?;
             let oracle = Book {
                 octets: book.as_slice(),
             };
-            Ok(verdict_answer(rt.alloc(), &oracle, key, message, signature)?)
+            Ok(verdict_answer(rt.alloc(), &oracle, claim)?)
         },
     }
 }
@@ -60,13 +54,12 @@ fn run_call(rt: &HostRuntime, call: Call<'_>) -> Result<String, Stop> {
             let key = find_octets(rt, key)?;
             let message = find_octets(rt, message)?;
             let signature = find_octets(rt, signature)?;
-            ask_verdict(
-                rt,
-                oracle,
-                key.as_slice(),
-                message.as_slice(),
-                signature.as_slice(),
-            )
+            let claim = Claim {
+                key: key.as_slice(),
+                message: message.as_slice(),
+                signature: signature.as_slice(),
+            };
+            ask_verdict(rt, oracle, claim)
         },
     }
 }

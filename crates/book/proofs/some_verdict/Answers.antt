@@ -1,20 +1,12 @@
-use Rattle.std.proofs.Common.{sym, ◌∙◌}
-use Rattle.record.proofs.Fronts.{record_shorter}
-use Rattle.book.proofs.Said.{yes_next, yes_here, yes_end}
+use Rattle.std.proofs.Common.{rules}
+use borrow.Author.Tests.{tests}
+use Rattle.std.proofs.lemmas.Iterator.Search.{any_from_yields_List}
+use Rattle.std.proofs.lemmas.Iterator.Consumers.{YieldsList-from_first}
+use Rattle.record.specs.Views.{record_seen, records_left}
+use Rattle.book.specs.Meaning.{yes_said}
 use Rattle.book.proofs.some_verdict.Goals as goal
 
-pub returns-then-yes_said : goal.returns-then-yes_said
-returns-then-yes_said c =
-    sym (yes_here c.args.key.now c.args.message.now c.args.signature.now c.loop-reading.rest.now _ c.in-Some.ensures (sym c.if-yes_said.ensures))
-    ∙ c.loop-reading.invariant
-
-pub loop-reading-smaller : goal.loop-reading-smaller
-loop-reading-smaller c = record_shorter c.loop-reading.rest.now _ (sym c.in-Some.ensures)
-
-pub loop-reading-preserved : goal.loop-reading-preserved
-loop-reading-preserved c =
-    sym (yes_next c.args.key.now c.args.message.now c.args.signature.now c.loop-reading.rest.now _ c.in-Some.ensures (sym c.if-yes_said.ensures))
-    ∙ c.loop-reading.invariant
-
 pub returns : goal.returns
-returns c = sym (yes_end c.args.key.now c.args.message.now c.args.signature.now c.loop-reading.rest.now c.in_default.ensures) ∙ c.loop-reading.invariant
+returns c =
+    any_from_yields_List (yes_said c.args.claim.key.now c.args.claim.message.now c.args.claim.signature.now) c.any.new.self _ _ c.any.ensures.ran
+    (YieldsList-from_first record_seen records_left {s = c.of.result} _ c.of.ensures) (λ x b q k. search (rules, tests))

@@ -1,14 +1,19 @@
-use Rattle.std.proofs.Common.{sym, ◌∙◌}
-use Rattle.book_index.proofs.Walks.{known_here, known_next, known_end}
+use Rattle.std.proofs.Common.{Some, None, ap, ◌∙◌, rules}
+use borrow.Author.Tests.{tests}
+use Rattle.std.specs.Option.{option_map}
+use Rattle.std.specs.Str.{bytes_eq}
+use Rattle.std.proofs.lemmas.Iterator.{YieldsList-from_slice}
+use Rattle.std.proofs.lemmas.Iterator.Search.{find_from_yields_List}
+use Rattle.record.specs.declared.KnownDigest.{KnownDigest}
+use Rattle.book_index.proofs.Walks.{first_found}
 use Rattle.book_index.proofs.find_digest.Goals as goal
 
-pub returns-then-same : goal.returns-then-same
-returns-then-same c =
-    sym (known_here c.args.octets.now c.args.known.now c.loop-k.k-index _ c.loop-k-test.true c.if-same.ensures) ∙ c.loop-k.invariant
-
-pub loop-k-preserved : goal.loop-k-preserved
-loop-k-preserved c =
-    sym (known_next c.args.octets.now c.args.known.now c.loop-k.k-index _ c.loop-k-test.true c.if-same.ensures) ∙ c.loop-k.invariant
+pub returns-in_err-found : goal.returns-in_err-found
+returns-in_err-found c =
+    let found = find_from_yields_List (λ (k : KnownDigest). bytes_eq k.octets.now c.args.octets.now) c.find.new.self _ None c.in_err-found.ensures.ran (YieldsList-from_slice c.args.known.now cc) (λ x b q k. search (rules, tests)) in
+    c.from_residual.ensures ∙ ap (option_map (λ (k : KnownDigest). k.digest)) found ∙ first_found c.args.octets.now c.args.known.now
 
 pub returns : goal.returns
-returns c = sym (known_end c.args.octets.now c.args.known.now c.loop-k.k-index c.loop-k-test.false) ∙ c.loop-k.invariant
+returns c =
+    let found = find_from_yields_List (λ (k : KnownDigest). bytes_eq k.octets.now c.args.octets.now) c.find.new.self _ (Some c.in_ok-found.found) c.in_ok-found.ensures.ran (YieldsList-from_slice c.args.known.now cc) (λ x b q k. search (rules, tests)) in
+    ap (option_map (λ (k : KnownDigest). k.digest)) found ∙ first_found c.args.octets.now c.args.known.now

@@ -1,9 +1,6 @@
-use Rattle.std.proofs.Common.{length}
+use Rattle.record.specs.Views.{records_left}
 use Rattle.book_index.proofs.Lists.{Gives}
 use Rattle.book_index.proofs.Index.open.Given as goal
 
-abbrev pub invariant-loop-reading : goal.invariant-loop-reading
-invariant-loop-reading l = Gives l.index l.rest l.book
-
-abbrev pub decreases-loop-reading : goal.decreases-loop-reading
-decreases-loop-reading l = length l.rest
+abbrev pub invariant-loop-found : goal.invariant-loop-found
+invariant-loop-found l = Gives l.index (records_left l.found-iterator) l.book
