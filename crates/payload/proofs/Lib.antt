@@ -1,4 +1,5 @@
 pub mod Shifts
+pub mod Comparing
 pub mod Orders
 pub mod Members
 pub mod Blocks

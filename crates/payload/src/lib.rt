@@ -26,7 +26,7 @@ pub use list::{Inserted, PayloadList};
 
 // A prefix. The address is its bits from the highest down, so that an IPv4 address stands in the first 32 of the
 // 128 bits, and both families are one case.
-#[derive(Clone, Copy, PartialEq, Eq, Debug)]
+#[derive(Clone, Copy, PartialEq, Eq, PartialOrd, Ord, Debug)]
 pub struct Prefix {
     pub family: Family,
     pub address: u128,
@@ -34,11 +34,11 @@ pub struct Prefix {
 }
 
 // A validated ROA payload: the AS may originate routes within the prefix, up to the maximum length.
-#[derive(Clone, Copy, PartialEq, Eq, Debug)]
+#[derive(Clone, Copy, PartialEq, Eq, PartialOrd, Ord, Debug)]
 pub struct Payload {
-    pub asn: u32,
     pub prefix: Prefix,
     pub max: u8,
+    pub asn: u32,
 }
 
 impl Prefix {
@@ -75,33 +75,14 @@ fn past(address: u128, length: u8) -> u128
 pub fn compare(a: Payload, b: Payload) -> Ordering
     ensures { MatchOrdering result (rank a < rank b) (rank a ≡ rank b) (rank b < rank a) }
 {
-    let p = a.prefix;
-    let q = b.prefix;
-    match (p.family, q.family) {
-        (Family::Ipv4, Family::Ipv6) => return Ordering::Less,
-        (Family::Ipv6, Family::Ipv4) => return Ordering::Greater,
-        _ => {}
-    }
-    if p.address != q.address {
-        return p.address.cmp(&q.address);
-    }
-    if p.length != q.length {
-        return p.length.cmp(&q.length);
-    }
-    if a.max != b.max {
-        return a.max.cmp(&b.max);
-    }
-    a.asn.cmp(&b.asn)
+    a.cmp(&b)
 }
 
 // Whether two payloads have one key.
 pub fn same_key(a: Payload, b: Payload) -> bool
     ensures { Decides result (rank a ≡ rank b) }
 {
-    match compare(a, b) {
-        Ordering::Equal => true,
-        _ => false,
-    }
+    a == b
 }
 
 // The order by ranks is IPv4 before IPv6, then address, length, maximum and AS; a payload put into a rising list
