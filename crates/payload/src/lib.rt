@@ -2,7 +2,8 @@
 //
 // A `Payload` is an AS, a prefix and a maximum length. `compare` orders payloads by family (IPv4 first), address,
 // length, maximum and AS, which together are the key of a payload; `same_key` says whether two keys are one, and
-// `Prefix::is_lawful` whether a prefix fits its family and has no bits set past its length. A `PayloadList` holds
+// `Prefix::is_lawful` whether a prefix fits its family and has no bits set past its length; `Prefix::cut` is the prefix of
+// fewer bits that it lies in. A `PayloadList` holds
 // payloads in that order in entries that its caller lends: `insert` puts a payload at its place, or says that it is
 // there already or that no room is left, and then changes nothing; `contains`, `position`, `payloads`, `len`, `room`
 // and `clear` do what they say. `around` gives a part of the list with every payload of one prefix, and `is_tidy` says
@@ -14,7 +15,7 @@
 
 ghost use Rattle.std.specs.Prelude.{◌≡◌, ◌+◌, ◌-◌, ◌/◌, ◌%◌, ◌^◌, ◌<◌, ◌≤◌, true, Decides};
 ghost use Rattle.std.specs.Ordering.{MatchOrdering};
-ghost use Rattle.payload.specs.Order.{rank, lawful, Small};
+ghost use Rattle.payload.specs.Order.{cut, rank, lawful, Small};
 ghost use Rattle.payload.specs.Laws.{Ordered, InsertedRises, OneList};
 
 use std::cmp::Ordering;
@@ -42,11 +43,27 @@ pub struct Payload {
 }
 
 impl Prefix {
+    // The prefix of so many bits at the front of this one: no bit past them is set.
+    pub fn cut(self, length: u8) -> Prefix
+        ensures { result ≡ cut self length }
+    {
+        let unused = 128u8.saturating_sub(length);
+        let address = match self.address.checked_shr(u32::from(unused)) {
+            Some(front) => front << unused,
+            None => 0,
+        };
+        Prefix {
+            address,
+            length,
+            ..self
+        }
+    }
+
     // Whether the prefix is no longer than an address, and no bit past its length is set.
     pub fn is_lawful(self) -> bool
         ensures { result ≡ lawful self }
     {
-        self.length <= self.family.width() && past(self.address, self.length) == 0
+        self.length <= self.family.width() && self == self.cut(self.length)
     }
 }
 
@@ -58,17 +75,6 @@ impl Payload {
     {
         self.prefix.is_lawful()
     }
-}
-
-// The number that the bits of an address past the first so many write.
-fn past(address: u128, length: u8) -> u128
-    requires { length ≤ 128 }
-    ensures { result ≡ address % 2 ^ (128 - length) }
-{
-    if length == 0 {
-        return address;
-    }
-    address % (1 << (128 - length))
 }
 
 // Which of two payloads comes first: by family, IPv4 before IPv6, then by address, length, maximum and AS.

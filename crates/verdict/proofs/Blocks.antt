@@ -7,7 +7,7 @@ use Rattle.family.specs.declared.Family.{Family}
 use Rattle.payload.specs.declared.Prefix.{Prefix}
 use Rattle.payload.specs.declared.Payload.{Payload}
 use Rattle.family.specs.Widths.{width}
-use Rattle.payload.specs.Order.{lawful, all_lawful}
+use Rattle.payload.specs.Order.{cut, lawful, all_lawful}
 use Rattle.payload.specs.Lists.{Around}
 use Rattle.payload.proofs.Blocks.{lawful_has}
 use Rattle.verdict.specs.declared.Verdict.{Verdict}
@@ -16,22 +16,18 @@ use Rattle.verdict.specs.Routes.{front, Covers, Matches, Judged, verdict_of}
 use Rattle.verdict.proofs.Verdicts.{judged_so}
 use Rattle.verdict.proofs.Laws.{one_verdict}
 
--- the prefix of a length that covers a route
-abbrev pub cover : Prefix → ℕ → ℕ → Prefix
-cover route length address = record { family = route.family; address = address; length = length }
-
 same_prefix : (f g : Family) (a b l m : ℕ) → f ≡ g → a ≡ b → l ≡ m → ◌≡◌ {A = Prefix} (record { family = f; address = a; length = l }) (record { family = g; address = b; length = m })
 same_prefix f g a b l m e h i = cc
 
--- a lawful payload that covers a route has that prefix
-pub cover_is : (p : Payload) (route : Prefix) (l a : ℕ) → lawful p.prefix ≡ true → Covers p route → p.prefix.length ≡ l → a ≡ front l route.address * 2 ^ (128 - l) → p.prefix ≡ cover route l a
-cover_is p route l a law c e f =
+-- a lawful payload that covers a route has the prefix of its length that the route lies in
+pub cover_is : (p : Payload) (route : Prefix) (l : ℕ) → lawful p.prefix ≡ true → Covers p route → p.prefix.length ≡ l → p.prefix ≡ cut route l
+cover_is p route l law c e =
     let n : ℕ = p.prefix.address in
     let k : ℕ = p.prefix.length in
     let z : n % 2 ^ (128 - k) ≡ 0 = eqb-true _ _ (and_parts (leb k (width p.prefix.family)) (eqb (n % 2 ^ (128 - k)) 0) law).1 in
     let whole : n ≡ front k n * 2 ^ (128 - k) = sym (split n (128 - k)) ∙ ap (λ (r : ℕ). n / 2 ^ (128 - k) * 2 ^ (128 - k) + r) z ∙ add-zero (n / 2 ^ (128 - k) * 2 ^ (128 - k)) in
-    let same : front k n * 2 ^ (128 - k) ≡ a = ap (λ (m : ℕ). m * 2 ^ (128 - k)) c.same_bits ∙ ap (λ (m : ℕ). front m route.address * 2 ^ (128 - m)) e ∙ sym f in
-    same_prefix p.prefix.family route.family n a k l c.family (whole ∙ same) e
+    let same : front k n * 2 ^ (128 - k) ≡ front l route.address * 2 ^ (128 - l) = ap (λ (m : ℕ). m * 2 ^ (128 - k)) c.same_bits ∙ ap (λ (m : ℕ). front m route.address * 2 ^ (128 - m)) e in
+    same_prefix p.prefix.family route.family n (front l route.address * 2 ^ (128 - l)) k l c.family (whole ∙ same) e
 
 -- what is known once the lengths below one were looked at
 pub record Seen (xs : List Payload) (route : Prefix) (origin : Option ℕ) (l : ℕ) (v : Verdict) : Type 0 where
@@ -52,10 +48,10 @@ module _ (xs : List Payload) (route : Prefix) (origin : Option ℕ) where
   pub seen_none : Seen xs route origin 0 NotFound
   seen_none = record { none_yet = apart₁; some = λ e. absurd (apart₂ e); rest = λ p h l c. absurd (omega arith) }
 
-  module _ (laws : all_lawful xs ≡ true) (l a : ℕ) (ys : List Payload) (here : a ≡ front l route.address * 2 ^ (128 - l)) (part : Around (cover route l a) xs ys) where
+  module _ (laws : all_lawful xs ≡ true) (l : ℕ) (q : Prefix) (ys : List Payload) (here : q ≡ cut route l) (part : Around q xs ys) where
     -- a payload of this length that covers the route is in the part
     inside : (p : Payload) → Has xs p → p.prefix.length ≡ l → Covers p route → Has ys p
-    inside p h e c = part.every p h (cover_is p route l a (lawful_has xs laws p h) c e here)
+    inside p h e c = part.every p h (cover_is p route l (lawful_has xs laws p h) c e ∙ sym here)
 
     at_valid : Judged ys route origin Valid → Valid ≡ verdict_of xs route origin
     at_valid j = one_verdict xs route origin Valid (verdict_of xs route origin) (j.0, part.only j.0 j.1, j.2) (judged_so xs route origin)

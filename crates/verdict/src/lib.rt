@@ -13,10 +13,11 @@ ghost use Rattle.std.specs.Prelude.{◌≡◌, ℕ, ◌-◌, ◌*◌, ◌/◌, �
 ghost use Rattle.payload.specs.Lists.{held};
 ghost use Rattle.payload.specs.Order.{lawful, all_lawful};
 ghost use Rattle.verdict.specs.Laws.{OneVerdict, SameVerdict, UncoveredStays, NoneCovers, LongerCoversNot, NoOriginMatchesNot, DifferInCover};
-ghost use Rattle.verdict.specs.Routes.{front, same_family, covers, names, matches, verdict_of, judged, word_of, Judgement, reason_of, related, Relates};
+ghost use Rattle.verdict.specs.Routes.{covers, names, matches, verdict_of, judged, word_of, Judgement, reason_of, related, Relates};
 
 use fault::Rule;
-use payload::{Family, Payload, PayloadList, Prefix};
+use payload::{Payload, PayloadList, Prefix};
+use std::fmt;
 
 // What the payloads of a list say of a route.
 #[derive(Clone, Copy, PartialEq, Eq, Debug)]
@@ -39,54 +40,45 @@ impl Verdict {
     }
 }
 
-// The first so many bits of an address, as a number.
-fn front(length: u8, address: u128) -> u128
-    requires { length ≤ 128 }
-    ensures { result ≡ front length address }
-{
-    if length == 0 {
-        return 0;
+impl fmt::Display for Verdict {
+    fn fmt<W: fmt::Write>(&self, f: &mut fmt::Formatter<W>) -> fmt::Result {
+        f.write_str(self.word())
     }
-    address >> (128 - length)
 }
 
-// Whether two addresses are of one family.
-fn same_family(a: Family, b: Family) -> bool
-    ensures { result ≡ same_family a b }
-{
-    a == b
+// A route: its prefix, and its origin, if it has one.
+#[derive(Clone, Copy, PartialEq, Eq, Debug)]
+pub struct Route {
+    pub prefix: Prefix,
+    pub origin: Option<u32>,
 }
 
 // Whether the route lies within the payload's prefix.
 fn covers(p: Payload, route: Prefix) -> bool
-    requires { route.length ≤ 128 }
     ensures { result ≡ covers p route }
 {
     let length = p.prefix.length;
-    same_family(p.prefix.family, route.family)
-        && length <= route.length
-        && front(length, p.prefix.address) == front(length, route.address)
+    length <= route.length && p.prefix.cut(length) == route.cut(length)
 }
 
 // Whether the payload allows a route that it covers to have this length and this origin.
-fn allows(p: Payload, route: Prefix, origin: Option<u32>) -> bool
-    ensures { result ≡ names p route origin }
+fn allows(p: Payload, route: Route) -> bool
+    ensures { result ≡ names p route.prefix route.origin }
 {
-    match origin {
-        Some(asn) => route.length <= p.max && p.asn != 0 && asn == p.asn,
+    match route.origin {
+        Some(asn) => route.prefix.length <= p.max && p.asn != 0 && asn == p.asn,
         None => false,
     }
 }
 
 // The verdict by some payloads, by a walk over them.
-fn walk(payloads: &[Payload], route: Prefix, origin: Option<u32>) -> Verdict
-    requires { route.length ≤ 128 }
-    ensures { result ≡ verdict_of payloads.now route origin }
+fn walk(payloads: &[Payload], route: Route) -> Verdict
+    ensures { result ≡ verdict_of payloads.now route.prefix route.origin }
 {
     let mut verdict = Verdict::NotFound;
     for p in payloads {
-        if covers(*p, route) {
-            if allows(*p, route, origin) {
+        if covers(*p, route.prefix) {
+            if allows(*p, route) {
                 return Verdict::Valid;
             }
             verdict = Verdict::Invalid;
@@ -95,32 +87,15 @@ fn walk(payloads: &[Payload], route: Prefix, origin: Option<u32>) -> Verdict
     verdict
 }
 
-// An address with the bits past the first so many cleared.
-fn cleared(length: u8, address: u128) -> u128
-    requires { length ≤ 128 }
-    ensures { result ≡ front length address * 2 ^ (128 - length) }
-{
-    if length == 0 {
-        return 0;
-    }
-    (address >> (128 - length)) << (128 - length)
-}
-
 // The verdict by a list of lawful prefixes: of each length up to the route's, only the payloads of the one prefix
 // that covers the route are looked at.
-fn judge_tidy(list: &PayloadList<'_>, route: Prefix, origin: Option<u32>) -> Verdict
-    requires short { route.length ≤ 128 }
-    requires laws { all_lawful (held list.now) ≡ true }
-    ensures { result ≡ verdict_of (held list.now) route origin }
+fn judge_tidy(list: &PayloadList<'_>, route: Route) -> Verdict
+    requires { all_lawful (held list.now) ≡ true }
+    ensures { result ≡ verdict_of (held list.now) route.prefix route.origin }
 {
     let mut verdict = Verdict::NotFound;
-    for length in 0..route.length + 1 {
-        let prefix = Prefix {
-            family: route.family,
-            address: cleared(length, route.address),
-            length,
-        };
-        match walk(list.around(prefix), route, origin) {
+    for length in 0..=route.prefix.length {
+        match walk(list.around(route.prefix.cut(length)), route) {
             Verdict::Valid => return Verdict::Valid,
             Verdict::Invalid => verdict = Verdict::Invalid,
             Verdict::NotFound => {}
@@ -129,22 +104,21 @@ fn judge_tidy(list: &PayloadList<'_>, route: Prefix, origin: Option<u32>) -> Ver
     verdict
 }
 
-// The verdict on a route with this origin, if it has one. Refused where the prefix is too long for its family or
-// has bits set past its length.
-pub fn judge(list: &PayloadList<'_>, route: Prefix, origin: Option<u32>) -> Result<Verdict, Rule>
-    ensures value { result ≡ judged (held list.now) route origin }
-    ensures rfc { Judgement (held list.now) route origin result }
+// The verdict on a route. Refused where its prefix is too long for its family or has bits set past its length.
+pub fn judge(list: &PayloadList<'_>, route: Route) -> Result<Verdict, Rule>
+    ensures value { result ≡ judged (held list.now) route.prefix route.origin }
+    ensures rfc { Judgement (held list.now) route.prefix route.origin result }
 {
-    if !route.is_lawful() {
+    if !route.prefix.is_lawful() {
         return Err(Rule::Prefix); // too long for its family, or with bits past its length
     }
     if list.is_tidy() {
-        return Ok(judge_tidy(list, route, origin));
+        return Ok(judge_tidy(list, route));
     }
-    Ok(walk(list.payloads(), route, origin))
+    Ok(walk(list.payloads(), route))
 }
 
-// How a payload stands to a route with an origin: it covers it or not, and where it covers it, it matches it or says why
+// How a payload stands to a route: it covers it or not, and where it covers it, it matches it or says why
 // not. Where several reasons hold, the first of these stands.
 #[derive(Clone, Copy, PartialEq, Eq, Debug)]
 pub enum Relation {
@@ -157,30 +131,30 @@ pub enum Relation {
 }
 
 // Why a payload that covers a route does not match it, or that it does.
-fn reason(p: Payload, route: Prefix, origin: Option<u32>) -> Relation
-    ensures { result ≡ reason_of p route origin }
+fn reason(p: Payload, route: Route) -> Relation
+    ensures { result ≡ reason_of p route.prefix route.origin }
 {
     if p.asn == 0 {
         return Relation::AsZero;
     }
-    match origin {
+    match route.origin {
         None => Relation::NoOrigin,
         Some(asn) if asn != p.asn => Relation::OtherAs,
-        Some(_) if route.length > p.max => Relation::TooLong,
+        Some(_) if route.prefix.length > p.max => Relation::TooLong,
         Some(_) => Relation::Matches,
     }
 }
 
-// How a payload stands to a route with an origin. Refused as a judgement is.
-pub fn relate(p: Payload, route: Prefix, origin: Option<u32>) -> Result<Relation, Rule>
-    ensures value { result ≡ related p route origin }
-    ensures rfc { Relates p route origin result }
+// How a payload stands to a route. Refused as a judgement is.
+pub fn relate(p: Payload, route: Route) -> Result<Relation, Rule>
+    ensures value { result ≡ related p route.prefix route.origin }
+    ensures rfc { Relates p route.prefix route.origin result }
 {
-    if !route.is_lawful() {
+    if !route.prefix.is_lawful() {
         return Err(Rule::Prefix);
     }
-    if covers(p, route) {
-        Ok(reason(p, route, origin))
+    if covers(p, route.prefix) {
+        Ok(reason(p, route))
     } else {
         Ok(Relation::Apart)
     }

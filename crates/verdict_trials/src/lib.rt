@@ -7,7 +7,7 @@ mod tests {
     use listing_reader::read;
     use payload::{Family, Payload, PayloadList, Prefix};
     use route_text::{read_origin, read_route};
-    use verdict::judge;
+    use verdict::{Route, judge};
 
     // Whether a word is a route of this address and length.
     fn is_route(word: &[u8], address: u128, length: u8) -> bool {
@@ -142,11 +142,13 @@ mod tests {
 
     // The word of a judgement, or why there is none.
     fn word_of(list: &PayloadList<'_>, route: &str, origin: &str) -> &'static str {
-        let (Ok(route), Ok(origin)) = (read_route(route.as_bytes()), read_origin(origin.as_bytes()))
-        else {
+        let (Ok(prefix), Ok(origin)) = (
+            read_route(route.as_bytes()),
+            read_origin(origin.as_bytes()),
+        ) else {
             return "misspelt";
         };
-        match judge(list, route, origin) {
+        match judge(list, Route { prefix, origin }) {
             Ok(verdict) => verdict.word(),
             Err(_) => "14",
         }

@@ -6,7 +6,7 @@ use listing_reader::read;
 use payload::{Family, Payload, PayloadList, Prefix};
 use route_text::{Misspelt, read_origin, read_route};
 use std::alloc::AllocError;
-use verdict::{Relation, judge, relate};
+use verdict::{Relation, Route, judge, relate};
 
 // How many payloads a list holds.
 const ROOM: usize = 4096;
@@ -75,16 +75,15 @@ fn print_verdict(
     rt: &HostRuntime,
     list: &PayloadList<'_>,
     word: &str,
-    route: Prefix,
-    origin: Option<u32>,
+    route: Route,
 ) -> Result<(), Failure> {
-    match judge(list, route, origin) {
-        Ok(verdict) => println!(rt; "{}", verdict.word())?,
+    match judge(list, route) {
+        Ok(verdict) => println!(rt; "{verdict}")?,
         Err(rule) => return Err(tell_refusal(rt, word, rule)),
     }
     let mut text = String::new(rt.alloc());
     for p in list.payloads() {
-        let Ok(relation) = relate(*p, route, origin) else {
+        let Ok(relation) = relate(*p, route) else {
             continue;
         };
         if let Some((before, after)) = heading(relation) {
@@ -105,8 +104,8 @@ pub fn run_judge(
     route_word: &str,
     origin_word: &str,
 ) -> Result<(), Failure> {
-    let route = match read_route(route_word.as_bytes()) {
-        Ok(route) => route,
+    let prefix = match read_route(route_word.as_bytes()) {
+        Ok(prefix) => prefix,
         Err(why) => return Err(tell_word(rt, route_word, why)),
     };
     let origin = match read_origin(origin_word.as_bytes()) {
@@ -122,5 +121,5 @@ pub fn run_judge(
         eprintln!(rt; "line {line}: {why}")?;
         return Err(Failure::Told);
     }
-    print_verdict(rt, &list, route_word, route, origin)
+    print_verdict(rt, &list, route_word, Route { prefix, origin })
 }

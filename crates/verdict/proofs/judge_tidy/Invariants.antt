@@ -3,4 +3,4 @@ use Rattle.verdict.proofs.Blocks.{Seen}
 use Rattle.verdict.proofs.judge_tidy.Given as goal
 
 abbrev pub invariant-loop-length : goal.invariant-loop-length
-invariant-loop-length l = Seen (held l.list) l.route l.origin l.length l.verdict
+invariant-loop-length l = Seen (held l.list) l.route.prefix l.route.origin l.length l.verdict

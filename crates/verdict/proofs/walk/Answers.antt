@@ -8,16 +8,16 @@ use Rattle.verdict.proofs.walk.Goals.{then-covers+else-allows, else-covers}
 
 pub returns-then-allows : goal.returns-then-allows
 returns-then-allows c =
-    walk_match c.args.payloads.now c.args.route c.args.origin c.loop-p.p-index blank _ _ c.loop-p-test.true c.loop-p.invariant (sym c.if-covers.ensures) (sym c.if-allows.ensures)
+    walk_match c.args.payloads.now c.args.route.prefix c.args.route.origin c.loop-p.p-index blank _ _ c.loop-p-test.true c.loop-p.invariant (sym c.if-covers.ensures) (sym c.if-allows.ensures)
 
 pub loop-p-preserved : goal.loop-p-preserved
 loop-p-preserved c =
     let xs = c.args.payloads.now in
     let i = c.loop-p.p-index in
-    let F : Verdict → Verdict = λ v. verdict_after v (drop (i + 1) xs) c.args.route c.args.origin in
+    let F : Verdict → Verdict = λ v. verdict_after v (drop (i + 1) xs) c.args.route.prefix c.args.route.origin in
     elim c.if-covers.branch [
-      | then-covers+else-allows w ↦ ap F w.verdict-is ∙ walk_cover xs c.args.route c.args.origin i blank c.loop-p.verdict _ c.loop-p-test.true c.loop-p.invariant (sym c.covers.ensures ∙ w.if-covers.true) (sym w.allows.ensures ∙ w.if-allows.false)
-      | else-covers w ↦ ap F w.verdict-is ∙ walk_other xs c.args.route c.args.origin i blank c.loop-p.verdict _ c.loop-p-test.true c.loop-p.invariant (sym c.covers.ensures ∙ w.if-covers.false)
+      | then-covers+else-allows w ↦ ap F w.verdict-is ∙ walk_cover xs c.args.route.prefix c.args.route.origin i blank c.loop-p.verdict _ c.loop-p-test.true c.loop-p.invariant (sym c.covers.ensures ∙ w.if-covers.true) (sym w.allows.ensures ∙ w.if-allows.false)
+      | else-covers w ↦ ap F w.verdict-is ∙ walk_other xs c.args.route.prefix c.args.route.origin i blank c.loop-p.verdict _ c.loop-p-test.true c.loop-p.invariant (sym c.covers.ensures ∙ w.if-covers.false)
     ]
 
 pub returns : goal.returns
