@@ -7,7 +7,6 @@
 
 ghost use Rattle.std.specs.Prelude.{◌≡◌, ◌+◌, ◌*◌, ◌^◌, ◌<◌, ◌≤◌, length, take, drop, Some, IfOk, OnOk};
 ghost use Rattle.fault.specs.Faults.{reported};
-ghost use Rattle.fault.specs.declared.Layer.TheVariants.{Content as ContentLayerOf};
 ghost use Rattle.file_faults.specs.Reports.{content_report};
 ghost use Rattle.family.specs.Widths.{width};
 ghost use Rattle.prefixes.specs.Reading.{bit_count};
@@ -22,7 +21,7 @@ use element::{Element, Part, read};
 use families::family_after;
 use fault::Rule;
 use file_faults::ContentFault;
-use layout::{end, expect};
+use layout::{LayerFault, end, expect};
 use payload::{Family, Prefix};
 use prefixes::low_end;
 
@@ -44,13 +43,6 @@ pub struct RoaRow {
 pub struct Roa {
     pub asn: u32,
     pub count: usize,
-}
-
-// A rule of the content that is broken at a place.
-fn broken(rule: Rule, place: usize) -> ContentFault
-    ensures { content_report result ≡ record { rule = rule; place = place; layer = ContentLayerOf } }
-{
-    ContentFault::Own { rule, place }
 }
 
 // The number of an address as the first bits of 128.
@@ -92,7 +84,7 @@ fn read_prefix<'a>(content: Part<'a>, family: Family) -> Result<(Prefix, Part<'a
 {
     let (bits, rest) = expect::<ContentFault>(content, 0x03)?;
     let Some(prefix) = prefix_in(bits.content.octets, family) else {
-        return Err(broken(Rule::Value, bits.place));
+        return Err(ContentFault::own(Rule::Value, bits.place));
     };
     Ok((prefix, rest))
 }
@@ -101,11 +93,8 @@ fn read_prefix<'a>(content: Part<'a>, family: Family) -> Result<(Prefix, Part<'a
 fn max_in(content: &[u8], least: u8, most: u8) -> Option<u8>
     ensures { result ≡ max_of least most content.now }
 {
-    let number = entries::as_number(content)?;
-    if number < u32::from(least) || number > u32::from(most) {
-        return None;
-    }
-    Some(number as u8)
+    let number = u8::try_from(entries::as_number(content)?).ok()?;
+    (least <= number && number <= most).then_some(number)
 }
 
 // The maximum with which a row ends, if it stands there.
@@ -117,7 +106,7 @@ fn read_max(rest: Part<'_>, prefix: Prefix) -> Result<Option<u8>, ContentFault>
     }
     let (number, rest) = expect::<ContentFault>(rest, 0x02)?;
     let Some(max) = max_in(number.content.octets, prefix.length, prefix.family.width()) else {
-        return Err(broken(Rule::Value, number.place));
+        return Err(ContentFault::own(Rule::Value, number.place));
     };
     end::<ContentFault>(rest)?;
     Ok(Some(max))
@@ -139,10 +128,10 @@ fn counted_row(row: &Element<'_>, family: Family, before: usize) -> Result<RoaRo
     ensures room { OnOk result (before < 256) }
 {
     if row.tag != 0x30 {
-        return Err(broken(Rule::Structure, row.place));
+        return Err(ContentFault::own(Rule::Structure, row.place));
     }
     if before == FAMILY_ROWS {
-        return Err(broken(Rule::Count, row.place));
+        return Err(ContentFault::own(Rule::Count, row.place));
     }
     read_row(row.content, family)
 }
@@ -153,13 +142,11 @@ fn take_row(
     family: Family,
     base: usize,
     count: usize,
-    table: &mut [RoaRow],
+    table: &mut [RoaRow; ROWS],
 ) -> Result<(), ContentFault>
     requires count { (base ≤ 256) × (base ≤ count) × (count ≤ base + 256) }
-    requires size { length table.old ≡ 512 }
     ensures value { told_by content_report (λ _. take (count + 1) table.new) result ≡ row_step family base (take count table.old) (seen row.now) }
     ensures past { drop (count + 1) table.new ≡ drop (count + 1) table.old }
-    ensures size { length table.new ≡ 512 }
     ensures room { OnOk result (count < base + 256) }
 {
     let row = counted_row(row, family, count - base)?;
@@ -172,13 +159,11 @@ fn read_rows(
     content: Part<'_>,
     family: Family,
     base: usize,
-    table: &mut [RoaRow],
+    table: &mut [RoaRow; ROWS],
 ) -> Result<usize, ContentFault>
     requires base { base ≤ 256 }
-    requires size { length table.old ≡ 512 }
     ensures value { told_by content_report (λ n. take n table.new) result ≡ rows_of (row_step family base) (take base table.old) (octets_of content.entry) }
     ensures past { IfOk result (λ n. (base ≤ n) × (n ≤ base + 256) × (drop n table.new ≡ drop n table.old)) }
-    ensures size { length table.new ≡ 512 }
 {
     let mut rest = content;
     let mut count = base;
@@ -196,16 +181,14 @@ fn read_some(
     content: Part<'_>,
     family: Family,
     base: usize,
-    table: &mut [RoaRow],
+    table: &mut [RoaRow; ROWS],
 ) -> Result<usize, ContentFault>
     requires base { base ≤ 256 }
-    requires size { length table.old ≡ 512 }
     ensures value { told_by content_report (λ n. take n table.new) result ≡ some_rows family (take base table.old) (octets_of content.entry) }
     ensures past { IfOk result (λ n. (base ≤ n) × (n ≤ base + 256) × (drop n table.new ≡ drop n table.old)) }
-    ensures size { length table.new ≡ 512 }
 {
     if content.octets.is_empty() {
-        return Err(broken(Rule::Structure, content.place));
+        return Err(ContentFault::own(Rule::Structure, content.place));
     }
     read_rows(content, family, base, table)
 }
@@ -215,13 +198,11 @@ fn read_family_rows(
     content: Part<'_>,
     family: Family,
     base: usize,
-    table: &mut [RoaRow],
+    table: &mut [RoaRow; ROWS],
 ) -> Result<usize, ContentFault>
     requires base { base ≤ 256 }
-    requires size { length table.old ≡ 512 }
     ensures value { told_by content_report (λ n. take n table.new) result ≡ family_rows family (take base table.old) (octets_of content.entry) }
     ensures past { IfOk result (λ n. (base ≤ n) × (n ≤ base + 256) × (drop n table.new ≡ drop n table.old)) }
-    ensures size { length table.new ≡ 512 }
 {
     let (rows, rest) = expect::<ContentFault>(content, 0x30)?;
     let count = read_some(rows.content, family, base, table)?;
@@ -234,16 +215,14 @@ fn read_family(
     family: &Element<'_>,
     before: Option<Family>,
     count: usize,
-    table: &mut [RoaRow],
+    table: &mut [RoaRow; ROWS],
 ) -> Result<(Family, usize), ContentFault>
     requires count { count ≤ most_rows before }
-    requires size { length table.old ≡ 512 }
     ensures value { told_by content_report (λ p. known_seen table.new (Some p.0, p.1)) result ≡ family_step (known_seen table.old (before, count)) (seen family.now) }
     ensures past { IfOk result (λ p. (p.1 ≤ most_rows (Some p.0)) × (count ≤ p.1) × (drop p.1 table.new ≡ drop p.1 table.old)) }
-    ensures size { length table.new ≡ 512 }
 {
     if family.tag != 0x30 {
-        return Err(broken(Rule::Structure, family.place));
+        return Err(ContentFault::own(Rule::Structure, family.place));
     }
     let (named, rest) = family_after::<ContentFault>(family.content, before)?;
     let total = read_family_rows(rest, named, count, table)?;
@@ -253,9 +232,8 @@ fn read_family(
 // Reads families into the table, and answers the last and how many rows there are.
 fn read_each_family(
     content: Part<'_>,
-    table: &mut [RoaRow],
+    table: &mut [RoaRow; ROWS],
 ) -> Result<(Option<Family>, usize), ContentFault>
-    requires size { length table.old ≡ 512 }
     ensures value { told_by content_report (known_seen table.new) result ≡ rows_of family_step nothing_known (octets_of content.entry) }
     ensures past { IfOk result (λ p. (p.1 ≤ 512) × (drop p.1 table.new ≡ drop p.1 table.old)) }
 {
@@ -275,21 +253,19 @@ fn read_each_family(
 // Reads families into the table, at least one, likewise.
 fn read_families(
     content: Part<'_>,
-    table: &mut [RoaRow],
+    table: &mut [RoaRow; ROWS],
 ) -> Result<(Option<Family>, usize), ContentFault>
-    requires size { length table.old ≡ 512 }
     ensures value { told_by content_report (known_seen table.new) result ≡ families_of (octets_of content.entry) }
     ensures past { IfOk result (λ p. (p.1 ≤ 512) × (drop p.1 table.new ≡ drop p.1 table.old)) }
 {
     if content.octets.is_empty() {
-        return Err(broken(Rule::Structure, content.place));
+        return Err(ContentFault::own(Rule::Structure, content.place));
     }
     read_each_family(content, table)
 }
 
 // Reads what the SEQUENCE of a ROA holds: its AS and its families.
-fn read_body(content: Part<'_>, table: &mut [RoaRow]) -> Result<Roa, ContentFault>
-    requires size { length table.old ≡ 512 }
+fn read_body(content: Part<'_>, table: &mut [RoaRow; ROWS]) -> Result<Roa, ContentFault>
     ensures value { told_by content_report (roa_seen table.new) result ≡ body_of (octets_of content.entry) }
     ensures past { IfOk result (λ a. (a.count ≤ 512) × (drop a.count table.new ≡ drop a.count table.old)) }
 {
@@ -300,23 +276,14 @@ fn read_body(content: Part<'_>, table: &mut [RoaRow]) -> Result<Roa, ContentFaul
     Ok(Roa { asn, count })
 }
 
-// Reads the content of a ROA, with nothing after it, into the table.
-fn read_content(content: Part<'_>, table: &mut [RoaRow]) -> Result<Roa, ContentFault>
-    requires size { length table.old ≡ 512 }
-    ensures value { told_by content_report (roa_seen table.new) result ≡ roa_of (octets_of content.entry) }
-    ensures past { IfOk result (λ a. (a.count ≤ 512) × (drop a.count table.new ≡ drop a.count table.old)) }
-{
-    let (outer, rest) = expect::<ContentFault>(content, 0x30)?;
-    let roa = read_body(outer.content, table)?;
-    end::<ContentFault>(rest)?;
-    Ok(roa)
-}
-
-// Reads the content of a ROA. Its rows stand at the front of the table then, and past them what stood there before; after a fault nothing is
-// said of the table.
+// Reads the content of a ROA, with nothing after it. Its rows stand at the front of the table then, and past them what stood there
+// before; after a fault nothing is said of the table.
 pub fn read_roa(content: Part<'_>, rows: &mut [RoaRow; ROWS]) -> Result<Roa, ContentFault>
     ensures value { told_by content_report (roa_seen rows.new) result ≡ roa_of (octets_of content.entry) }
     ensures past { IfOk result (λ a. (a.count ≤ 512) × (drop a.count rows.new ≡ drop a.count rows.old)) }
 {
-    read_content(content, rows)
+    let (outer, rest) = expect::<ContentFault>(content, 0x30)?;
+    let roa = read_body(outer.content, rows)?;
+    end::<ContentFault>(rest)?;
+    Ok(roa)
 }

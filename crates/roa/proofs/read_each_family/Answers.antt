@@ -12,7 +12,7 @@ returns-in_err-family c =
     let l = c.loop-rest in
     let p = err_from_is_err_and c.from_residual.result c.from_residual.ensures.1 in
     let e = no-element family_step (known_seen l.table (l.before, l.count)) (octets_of l.rest) c.in_err-family.field-0.0 (some_left _ c.loop-rest-test.ensures) c.in_err-family.ensures.value in
-    record { value = rw p.1 (rw p.2 (sym (l.invariant.3 ∙ e))); past = rw p.1 tt }
+    record { value = rw p.1 (rw p.2 (sym (l.invariant.2 ∙ e))); past = rw p.1 tt }
 
 pub returns-in_err-named : goal.returns-in_err-named
 returns-in_err-named c =
@@ -20,7 +20,7 @@ returns-in_err-named c =
     let p = err_from_is_err_and c.from_residual-in_err-named.result c.from_residual-in_err-named.ensures.1 in
     let e = refused family_step (known_seen l.table (l.before, l.count)) (octets_of l.rest) (seen c.in_ok-family.family) (octets_of c.in_ok-family.following) (content_report c.in_err-named.field-0.0) (some_left _ c.loop-rest-test.ensures)
     c.in_ok-family.ensures.value c.in_err-named.ensures.value in
-    record { value = rw p.1 (rw p.2 (sym (l.invariant.3 ∙ e))); past = rw p.1 tt }
+    record { value = rw p.1 (rw p.2 (sym (l.invariant.2 ∙ e))); past = rw p.1 tt }
 
 pub loop-rest-preserved : goal.loop-rest-preserved
 loop-rest-preserved c =
@@ -29,9 +29,8 @@ loop-rest-preserved c =
     let t = c.read_family.new.table in
     let n = c.in_ok-named.total in (
       more.past.0,
-      more.size,
-      more.past.2 ∙ past_later l.count n l.table c.args.table.now more.past.1 l.invariant.2,
-      l.invariant.3
+      more.past.2 ∙ past_later l.count n l.table c.args.table.now more.past.1 l.invariant.1,
+      l.invariant.2
           ∙ taken family_step (known_seen l.table (l.before, l.count)) (known_seen t (Some c.in_ok-named.named, n)) (octets_of l.rest) (seen c.in_ok-family.family) (octets_of c.in_ok-family.following) (some_left _ c.loop-rest-test.ensures)
           c.in_ok-family.ensures.value more.value,
     )
@@ -42,6 +41,6 @@ returns c =
     let few = most_rows_most l.before in
     let last = l.invariant.0 in
     record {
-      value = sym (l.invariant.3 ∙ ended family_step (known_seen l.table (l.before, l.count)) (octets_of l.rest) (none_left _ c.loop-rest-test.ensures));
-      past = (omega arith, l.invariant.2);
+      value = sym (l.invariant.2 ∙ ended family_step (known_seen l.table (l.before, l.count)) (octets_of l.rest) (none_left _ c.loop-rest-test.ensures));
+      past = (omega arith, l.invariant.1);
     }

@@ -7,7 +7,6 @@ use Rattle.roa.proofs.read_each_family.Given as goal
 abbrev pub invariant-loop-rest : goal.invariant-loop-rest
 invariant-loop-rest l =
     (l.count ≤ most_rows l.before)
-    × (length l.table ≡ 512)
     × (drop l.count l.table ≡ drop l.count l.initial.table)
     × (rows_of family_step nothing_known (octets_of l.content) ≡ rows_of family_step (known_seen l.table (l.before, l.count)) (octets_of l.rest))
 

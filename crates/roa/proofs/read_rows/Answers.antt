@@ -13,7 +13,7 @@ returns-in_err-row c =
     let step = row_step c.args.family c.args.base in
     let p = err_from_is_err_and c.from_residual.result c.from_residual.ensures.1 in
     let e = no-element step (take l.count l.table) (octets_of l.rest) c.in_err-row.field-0.0 (some_left _ c.loop-rest-test.ensures) c.in_err-row.ensures.value in
-    record { value = rw p.1 (rw p.2 (sym (l.invariant.4 ∙ e))); past = rw p.1 tt; size = l.invariant.2 }
+    record { value = rw p.1 (rw p.2 (sym (l.invariant.3 ∙ e))); past = rw p.1 tt }
 
 pub returns-in_err-take_row : goal.returns-in_err-take_row
 returns-in_err-take_row c =
@@ -22,7 +22,7 @@ returns-in_err-take_row c =
     let p = err_from_is_err_and c.from_residual-in_err-take_row.result c.from_residual-in_err-take_row.ensures.1 in
     let e = refused step (take l.count l.table) (octets_of l.rest) (seen c.in_ok-row.row) (octets_of c.in_ok-row.following) (content_report c.in_err-take_row.field-0.0) (some_left _ c.loop-rest-test.ensures)
     c.in_ok-row.ensures.value c.in_err-take_row.ensures.value in
-    record { value = rw p.1 (rw p.2 (sym (l.invariant.4 ∙ e))); past = rw p.1 tt; size = c.take_row.ensures.size }
+    record { value = rw p.1 (rw p.2 (sym (l.invariant.3 ∙ e))); past = rw p.1 tt }
 
 pub loop-rest-preserved : goal.loop-rest-preserved
 loop-rest-preserved c =
@@ -33,9 +33,8 @@ loop-rest-preserved c =
     let from = l.invariant.0 in (
       omega arith,
       omega arith,
-      more.size,
-      more.past ∙ past_more l.count l.table c.args.table.now l.invariant.3,
-      l.invariant.4
+      more.past ∙ past_more l.count l.table c.args.table.now l.invariant.2,
+      l.invariant.3
           ∙ taken step (take l.count l.table) (take (l.count + 1) c.take_row.new.table) (octets_of l.rest) (seen c.in_ok-row.row) (octets_of c.in_ok-row.following) (some_left _ c.loop-rest-test.ensures)
           c.in_ok-row.ensures.value more.value,
     )
@@ -45,7 +44,6 @@ returns c =
     let l = c.loop-rest in
     let step = row_step c.args.family c.args.base in
     record {
-      value = sym (l.invariant.4 ∙ ended step (take l.count l.table) (octets_of l.rest) (none_left _ c.loop-rest-test.ensures));
-      past = (l.invariant.0, l.invariant.1, l.invariant.3);
-      size = l.invariant.2;
+      value = sym (l.invariant.3 ∙ ended step (take l.count l.table) (octets_of l.rest) (none_left _ c.loop-rest-test.ensures));
+      past = (l.invariant.0, l.invariant.1, l.invariant.2);
     }

@@ -8,7 +8,6 @@ abbrev pub invariant-loop-rest : goal.invariant-loop-rest
 invariant-loop-rest l =
     (l.base ≤ l.count)
     × (l.count ≤ l.base + 256)
-    × (length l.table ≡ 512)
     × (drop l.count l.table ≡ drop l.count l.initial.table)
     × (rows_of (row_step l.family l.base) (take l.base l.initial.table) (octets_of l.content)
     ≡ rows_of (row_step l.family l.base) (take l.count l.table) (octets_of l.rest))

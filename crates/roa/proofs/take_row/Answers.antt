@@ -1,4 +1,4 @@
-use Rattle.std.proofs.Common.{◌+◌, ◌∙◌, arith, length-set}
+use Rattle.std.proofs.Common.{◌≡◌, ◌+◌, length, arith}
 use Rattle.std.proofs.lemmas.List.{drop-set-lt}
 use Rattle.element.specs.Reading.{seen}
 use Rattle.roa.proofs.Tables.{stored, in_table, under}
@@ -11,10 +11,10 @@ returns c =
     let b = c.args.base in
     let r = c.in_ok-row.row in
     let room = under b n c.requires.count.1 c.in_ok-row.ensures.room in
-    let few = in_table b n t c.requires.count.0 room c.requires.size in
+    let size : length t ≡ 512 = omega arith in
+    let few = in_table b n t c.requires.count.0 room size in
     record {
       value = stored c.args.family b n t (seen c.args.row.now) r few c.in_ok-row.ensures.value;
       past = drop-set-lt (n + 1) t n r (omega arith);
-      size = length-set t n r ∙ c.requires.size;
       room = room;
     }
