@@ -1,2 +1,2 @@
 pub mod Laying
-mod Written
+pub mod Written
