@@ -1,11 +1,10 @@
 -- The least number of a spot whose octets are those of the spot before it. Assumes nothing.
-use Rattle.std.proofs.Common.{◌≡◌, ℕ, zero, suc, ◌+◌, ◌-◌, ◌<◌, ◌≤◌, Bool, true, false, cond, ltb, ◌⊎◌, List, [], ◌∷◌, length, get_or, drop, Some, None, Decides, Option, sym, refl, ap, ◌∙◌, inl, inr, arith, MatchOption}
+use Rattle.std.proofs.Common.{◌≡◌, ℕ, zero, suc, ◌<◌, ◌≤◌, Bool, true, false, cond, ltb, ◌⊎◌, List, [], ◌∷◌, length, get_or, Some, None, Decides, Option, sym, refl, ◌∙◌, inl, inr, arith, MatchOption}
 use Rattle.std.specs.Str.{bytes_eq}
 use Rattle.std.proofs.lemmas.Slice.Eq.{bytes_eq-Decides}
 use Rattle.std.proofs.lemmas.Bool.{ltb-true, ltb-false, both_ways}
-use Rattle.std.proofs.lemmas.List.{at_drop_more, at_drop_all, get_or_default}
 use Rattle.repeats.specs.declared.Spot.{Spot}
-use Rattle.repeats.specs.Repeats.{key_of, lesser, with_next, least_after, least_next}
+use Rattle.repeats.specs.Repeats.{key_of, lesser, with_next, least_after}
 
 -- a spot of this number follows one of the same octets
 abbrev pub Nexts : Spot → List Spot → ℕ → Type 0
@@ -95,35 +94,3 @@ least_is best p (s ∷ ss) =
     let t = bytes_eq (key_of p) (key_of s) in
     let d = bytes_eq-Decides (key_of p) (key_of s) in
     is_least (least_after best p (s ∷ ss)) (Found (with_next best p s) s ss) (Found best p (s ∷ ss)) (back t best p s ss d) (forth t best p s ss d) (least_is (with_next best p s) s ss)
-
--- ---- the loop that goes over the spots
-
--- what is left to see gives the answer
-abbrev pub Going : List Spot → ℕ → Option ℕ → Type 0
-Going xs i best = (d : Spot) → least_after best (get_or xs (i - 1) d) (drop i xs) ≡ least_next xs
-
-pub begun : (xs : List Spot) → 0 < length xs → Going xs 1 None
-begun [] l d = absurd (omega arith)
-begun (x ∷ xs) l d = refl
-
-pub more : (xs : List Spot) (i : ℕ) (best next : Option ℕ) (e f : Spot) → 1 ≤ i → i < length xs → next ≡ with_next best (get_or xs (i - 1) e) (get_or xs i f) → Going xs i best → Going xs (i + 1) next
-more xs i best next e f k l is-next h d =
-    let p : get_or xs (i - 1) e ≡ get_or xs (i - 1) d = get_or_default xs (i - 1) e d (omega arith) in
-    let s : get_or xs i f ≡ get_or xs i d = get_or_default xs i f d l in
-    let j : i + 1 - 1 ≡ i = omega arith in
-    let a : least_after best (get_or xs (i - 1) d) (drop i xs) ≡ least_after (with_next best (get_or xs (i - 1) d) (get_or xs i d)) (get_or xs i d) (drop (i + 1) xs) =
-    at_drop_more (least_after best (get_or xs (i - 1) d)) xs i d l in
-    ap (λ (n : Option ℕ). least_after n (get_or xs (i + 1 - 1) d) (drop (i + 1) xs)) is-next
-    ∙ ap (λ (m : ℕ). least_after (with_next best (get_or xs (i - 1) e) (get_or xs i f)) (get_or xs m d) (drop (i + 1) xs)) j
-    ∙ ap (λ (q : Spot). least_after (with_next best q (get_or xs i f)) (get_or xs i d) (drop (i + 1) xs)) p
-    ∙ ap (λ (q : Spot). least_after (with_next best (get_or xs (i - 1) d) q) (get_or xs i d) (drop (i + 1) xs)) s
-    ∙ sym a
-    ∙ h d
-
-pub finished : (xs : List Spot) (i : ℕ) (best : Option ℕ) → 0 < length xs → length xs ≤ i → Going xs i best → best ≡ least_next xs
-finished [] i best l k h = absurd (omega arith)
-finished (x ∷ xs) i best l k h = sym (at_drop_all (least_after best (get_or (x ∷ xs) (i - 1) x)) (x ∷ xs) i k) ∙ h x
-
-pub none_next : (xs : List Spot) → length xs ≡ 0 → None ≡ least_next xs
-none_next [] e = refl
-none_next (x ∷ xs) e = absurd (omega arith)

@@ -1,35 +1,34 @@
 -- The place of a spot of a given number, and what is noted. Assumes nothing.
-use Rattle.std.proofs.Common.{◌≡◌, ℕ, zero, suc, ◌+◌, ◌-◌, ◌<◌, ◌≤◌, Bool, true, false, cond, eqb, List, [], ◌∷◌, ◌++◌, length, get_or, take, drop, set, Option, sym, refl, ap, ◌∙◌, subst, inl, inr, arith}
+use Rattle.std.proofs.Common.{◌≡◌, ℕ, zero, suc, ◌+◌, ◌-◌, ◌<◌, ◌≤◌, Bool, true, false, cond, eqb, List, [], ◌∷◌, ◌++◌, length, get_or, take, set, Some, Option, sym, refl, ap, ◌∙◌, subst, inl, inr, arith}
 use borrow.Rule.Slice.PartMut.{put_mid}
 use Rattle.std.specs.List.Sorted.{IsPermutation}
-use Rattle.std.specs.List.{ContainsAt as Has, AllByRecursion}
+use Rattle.std.specs.List.{ContainsAt as Has, AllByRecursion, find}
+use Rattle.std.specs.Option.{option_map}
 use Rattle.std.proofs.lemmas.List.Sorted.{length_permutation}
 use Rattle.std.proofs.ByRecursion.{all_shuffled, has_shuffled, has_get_or, All-from_get_or}
 use Rattle.std.proofs.lemmas.Slice.{take-put_mid, drop-put_mid}
-use Rattle.std.proofs.lemmas.List.{get_or-map, at_drop_more, take_more_set, map_push, length-take-le, get_or_append_left, get_or_push, length_push}
-use Rattle.std.proofs.lemmas.Bool.{eqb-true, eqb-false, eq-eqb, cases_lt, cond-true, cond-false}
+use Rattle.std.proofs.lemmas.List.{get_or-map, take_more_set, map_push, length-take-le, get_or_append_left, get_or_push, length_push}
+use Rattle.std.proofs.lemmas.Bool.{eqb-true, eqb-false, cases_lt}
 use Rattle.repeats.specs.declared.Spot.{Spot}
 use Rattle.repeats.specs.Repeats.{Numbered, Notes, Stirs, key_of, keys_of, places_of, place_with, place_at, first_repeat}
 
--- ---- the loop that looks for a number
+-- ---- the look for a number
 
-pub stops : (xs : List Spot) (k i : ℕ) (d : Spot) → k < length xs → (get_or xs k d).index ≡ i → place_with i (drop k xs) ≡ place_with i xs → (get_or xs k d).place ≡ place_with i xs
-stops xs k i d l e h =
-    let a : place_with i (drop k xs) ≡ cond (eqb (get_or xs k d).index i) (get_or xs k d).place (place_with i (drop (k + 1) xs)) = at_drop_more (place_with i) xs k d l in
-    sym (cond-true _ _ _ (eq-eqb _ _ e)) ∙ sym a ∙ h
-
-pub goes_on : (xs : List Spot) (k i : ℕ) (d : Spot) → k < length xs → eqb (get_or xs k d).index i ≡ false → place_with i (drop k xs) ≡ place_with i xs → place_with i (drop (k + 1) xs) ≡ place_with i xs
-goes_on xs k i d l e h =
-    let a : place_with i (drop k xs) ≡ cond (eqb (get_or xs k d).index i) (get_or xs k d).place (place_with i (drop (k + 1) xs)) = at_drop_more (place_with i) xs k d l in
-    sym (cond-false _ _ _ e) ∙ sym a ∙ h
+pub place_found : (i : ℕ) (xs : List Spot) → option_map (λ (s : Spot). s.place) (find (λ (s : Spot). eqb s.index i) xs) ≡ place_with i xs
+place_found i [] = refl
+place_found i (s ∷ ss) = by (eqb s.index i) (place_found i ss)
+  where
+    by : (t : Bool) → option_map (λ (s : Spot). s.place) (find (λ (s : Spot). eqb s.index i) ss) ≡ place_with i ss → option_map (λ (s : Spot). s.place) (cond t (Some s) (find (λ (s : Spot). eqb s.index i) ss)) ≡ cond t (Some s.place) (place_with i ss)
+    by true h = refl
+    by false h = h
 
 -- ---- which place it is
 
-place_by : (t : Bool) (s : Spot) (ss : List Spot) (i p : ℕ) → eqb s.index i ≡ t → (s.index ≡ i → s.place ≡ p) → (t ≡ false → place_with i ss ≡ p) → cond t s.place (place_with i ss) ≡ p
-place_by true s ss i p e h k = h (eqb-true _ _ e)
+place_by : (t : Bool) (s : Spot) (ss : List Spot) (i p : ℕ) → eqb s.index i ≡ t → (s.index ≡ i → s.place ≡ p) → (t ≡ false → place_with i ss ≡ Some p) → cond t (Some s.place) (place_with i ss) ≡ Some p
+place_by true s ss i p e h k = ap Some (h (eqb-true _ _ e))
 place_by false s ss i p e h k = k refl
 
-place_is : (i p : ℕ) (ys : List Spot) → AllByRecursion (λ (s : Spot). s.index ≡ i → s.place ≡ p) ys → (x : Spot) → x.index ≡ i → Has ys x → place_with i ys ≡ p
+place_is : (i p : ℕ) (ys : List Spot) → AllByRecursion (λ (s : Spot). s.index ≡ i → s.place ≡ p) ys → (x : Spot) → x.index ≡ i → Has ys x → place_with i ys ≡ Some p
 place_is i p [] a x e h = absurd (let l : h.0 < zero = h.1 in omega arith)
 place_is i p (s ∷ ss) a x e (zero, l, at) =
     place_by (eqb s.index i) s ss i p refl a.0 (λ f. absurd (eqb-false _ _ f (ap (λ (t : Spot). t.index) (at s) ∙ e)))
@@ -37,7 +36,7 @@ place_is i p (s ∷ ss) a x e (suc k, l, at) =
     place_by (eqb s.index i) s ss i p refl a.0 (λ f. place_is i p ss a.1 x e (k, omega arith, at))
 
 -- in another order a number has its place still
-pub place_shuffled : (xs ys : List Spot) (i : ℕ) → Numbered xs → IsPermutation xs ys → i < length xs → place_with i ys ≡ get_or (places_of xs) i 0
+pub place_shuffled : (xs ys : List Spot) (i : ℕ) → Numbered xs → IsPermutation xs ys → i < length xs → place_with i ys ≡ Some (get_or (places_of xs) i 0)
 place_shuffled [] ys i n s l = absurd (omega arith)
 place_shuffled (z ∷ zs) ys i n s l =
     let xs = z ∷ zs in
@@ -45,7 +44,7 @@ place_shuffled (z ∷ zs) ys i n s l =
     let own : AllByRecursion (λ (t : Spot). t.index ≡ i → t.place ≡ p) xs = All-from_get_or (λ (t : Spot). t.index ≡ i → t.place ≡ p) xs z
     (λ k lk e. ap (λ (m : ℕ). (get_or xs m z).place) (sym (n k z lk) ∙ e)) in
     place_is i p ys (all_shuffled (λ (t : Spot). t.index ≡ i → t.place ≡ p) xs ys s own) (get_or xs i z) (n i z l) (has_shuffled xs ys (get_or xs i z) s (has_get_or xs i z l))
-    ∙ sym (get_or-map (λ (t : Spot). t.place) xs i z 0 l)
+    ∙ ap Some (sym (get_or-map (λ (t : Spot). t.place) xs i z 0 l))
 
 -- ---- one more note
 

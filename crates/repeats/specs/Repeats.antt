@@ -71,10 +71,10 @@ abbrev pub place_at : List ℕ → Option ℕ → Option ℕ
 place_at ps None = None
 place_at ps (Some i) = Some (slice_index ps i)
 
--- the place of the first spot of this number, and 0 where there is none
-abbrev pub place_with : ℕ → List Spot → ℕ
-place_with i [] = 0
-place_with i (s ∷ ss) = cond (s.index == i) s.place (place_with i ss)
+-- the place of the first spot of this number, if there is one
+abbrev pub place_with : ℕ → List Spot → Option ℕ
+place_with i [] = None
+place_with i (s ∷ ss) = cond (s.index == i) (Some s.place) (place_with i ss)
 
 -- the first so many spots note these strings and these places, in the order that they were read in
 pub record Notes (keys : List (List ℕ)) (places : List ℕ) (spots : List Spot) (count : ℕ) : Type 0 where

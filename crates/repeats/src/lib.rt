@@ -4,8 +4,7 @@
 // to name. `repeat_place` then answers the place of the first string that is the same as one before it, and
 // `first_repeat` its number; or that all are different. The spots are sorted by their octets and then by their numbers,
 // so that equal strings are neighbours, and the answer is the least number of a spot that follows one of the same
-// octets. A heap puts them in order, and the sort of `std`, which then only looks over them, has the proof that the order
-// is right: no choice of strings makes it slow.
+// octets. The sort of `std` takes no memory, and no choice of strings makes it slow.
 // specs/Repeats.antt has what the calls promise, and specs/Reading.antt that to look for repeats after a reading is the
 // same as to look while reading. The callers number the spots from 0, as `note` does. The crate rests on `std` alone.
 #![tactic(auto)]
@@ -15,8 +14,6 @@ ghost use Rattle.std.specs.List.Sorted.{IsPermutation};
 ghost use Rattle.std.specs.Str.{bytes_eq};
 ghost use Rattle.repeats.specs.Reading.{LookingAfter};
 ghost use Rattle.repeats.specs.Repeats.{AllDifferent, FirstRepeat, Numbered, keys_of, first_repeat, lesser, with_next, least_next, places_of, place_at, place_with, Notes, Stirs};
-
-mod heap;
 
 // An octet string, its number among those that were read, and the place that a fault of it names. The place has no part
 // in the order.
@@ -33,10 +30,7 @@ pub struct Spot<'a> {
 fn lower(best: Option<usize>, index: usize) -> usize
     ensures { result ≡ lesser best index }
 {
-    match best {
-        Some(least) => { if least < index { least } else { index } },
-        None => index,
-    }
+    best.map_or(index, |least| least.min(index))
 }
 
 // Whether two strings are the same.
@@ -50,7 +44,7 @@ pub fn same(a: &[u8], b: &[u8]) -> bool
 fn with_next(best: Option<usize>, before: Spot<'_>, spot: Spot<'_>) -> Option<usize>
     ensures { result ≡ with_next best before.entry spot.entry }
 {
-    if same(before.octets, spot.octets) {
+    if before.octets == spot.octets {
         return Some(lower(best, spot.index));
     }
     best
@@ -60,12 +54,12 @@ fn with_next(best: Option<usize>, before: Spot<'_>, spot: Spot<'_>) -> Option<us
 fn least_next(spots: &[Spot<'_>]) -> Option<usize>
     ensures { result ≡ least_next spots.now }
 {
-    if spots.is_empty() {
-        return None;
-    }
+    let (first, others) = spots.split_first()?;
     let mut best = None;
-    for i in 1..spots.len() {
-        best = with_next(best, spots[i - 1], spots[i]);
+    let mut before = first;
+    for spot in others {
+        best = with_next(best, *before, *spot);
+        before = spot;
     }
     best
 }
@@ -78,21 +72,16 @@ pub fn first_repeat(spots: &mut [Spot<'_>]) -> Option<usize>
     ensures plain { MatchOption result (AllDifferent (keys_of spots.old)) (FirstRepeat (keys_of spots.old)) }
     ensures same { IsPermutation spots.old spots.new }
 {
-    heap::arrange(spots);
     spots.sort_unstable();
     least_next(spots)
 }
 
-// The place of the first spot of this number, and 0 where there is none.
-fn place_with(spots: &[Spot<'_>], index: usize) -> usize
+// The place of the first spot of this number, if there is one.
+fn place_with(spots: &[Spot<'_>], index: usize) -> Option<usize>
     ensures { result ≡ place_with index spots.now }
 {
-    for spot in spots {
-        if spot.index == index {
-            return spot.place;
-        }
-    }
-    0
+    let found = spots.iter().find(|spot| spot.index == index)?;
+    Some(found.place)
 }
 
 // The place of the first string that is the same as one before it, or nothing where all are different.
@@ -101,10 +90,8 @@ fn place_of_repeat(spots: &mut [Spot<'_>]) -> Option<usize>
     ensures value { result ≡ place_at (places_of spots.old) (first_repeat (keys_of spots.old)) }
     ensures same { IsPermutation spots.old spots.new }
 {
-    match first_repeat(spots) {
-        Some(index) => Some(place_with(spots, index)),
-        None => None,
-    }
+    let index = first_repeat(spots)?;
+    place_with(spots, index)
 }
 
 // Notes one more string and its place, where so many are noted.

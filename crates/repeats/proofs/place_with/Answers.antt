@@ -1,15 +1,17 @@
-use Rattle.std.proofs.Common.{sym, ◌∙◌}
-use Rattle.std.proofs.lemmas.List.{at_drop_all}
-use Rattle.std.proofs.lemmas.Bool.{ne_eqb}
-use Rattle.repeats.specs.Repeats.{place_with}
-use Rattle.repeats.proofs.Places.{stops, goes_on}
+use Rattle.std.proofs.Common.{eqb, Some, None, ap, ◌∙◌, rules, tests}
+use Rattle.std.specs.Option.{option_map}
+use Rattle.std.proofs.lemmas.Iterator.{YieldsList-from_slice}
+use Rattle.std.proofs.lemmas.Iterator.Search.{find_from_yields_List}
+use Rattle.repeats.specs.declared.Spot.{Spot}
+use Rattle.repeats.proofs.Places.{place_found}
 use Rattle.repeats.proofs.place_with.Goals as goal
 
-pub returns-then-spot-index : goal.returns-then-spot-index
-returns-then-spot-index c = stops c.args.spots.now c.loop-spot.spot-index c.args.index _ c.loop-spot-test.true c.if-spot-index.true c.loop-spot.invariant
-
-pub loop-spot-preserved : goal.loop-spot-preserved
-loop-spot-preserved c = goes_on c.args.spots.now c.loop-spot.spot-index c.args.index _ c.loop-spot-test.true (ne_eqb _ _ c.if-spot-index.false) c.loop-spot.invariant
+pub returns-in_err-found : goal.returns-in_err-found
+returns-in_err-found c =
+    let found = find_from_yields_List (λ (s : Spot). eqb s.index c.args.index) c.find.new.self _ None c.in_err-found.ensures.ran (YieldsList-from_slice c.args.spots.now cc) (λ x b q k. search (rules, tests)) in
+    c.from_residual.ensures ∙ ap (option_map (λ (s : Spot). s.place)) found ∙ place_found c.args.index c.args.spots.now
 
 pub returns : goal.returns
-returns c = sym (at_drop_all (place_with c.args.index) c.args.spots.now c.loop-spot.spot-index c.loop-spot-test.false) ∙ c.loop-spot.invariant
+returns c =
+    let found = find_from_yields_List (λ (s : Spot). eqb s.index c.args.index) c.find.new.self _ (Some c.in_ok-found.found) c.in_ok-found.ensures.ran (YieldsList-from_slice c.args.spots.now cc) (λ x b q k. search (rules, tests)) in
+    ap (option_map (λ (s : Spot). s.place)) found ∙ place_found c.args.index c.args.spots.now
