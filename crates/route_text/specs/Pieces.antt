@@ -5,7 +5,7 @@ use Rattle.hex_text.specs.Digits.{nibble_of}
 use Rattle.family.specs.declared.Family.{Family}
 use Rattle.family.specs.declared.Family.TheVariants.{Ipv4, Ipv6}
 use Rattle.payload.specs.declared.Prefix.{Prefix}
-use Rattle.route_text.specs.declared.Groups.{Groups}
+use Rattle.route_text.specs.declared.groups.Groups.{Groups}
 
 -- one answer and then another, none where one of them is none
 abbrev pub then_some : {X Y : Type 0} → Option X → (X → Option Y) → Option Y

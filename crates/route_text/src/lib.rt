@@ -15,6 +15,9 @@ ghost use Rattle.std.specs.Str.{bytes_eq};
 ghost use Rattle.route_text.specs.Words.{route_of, asn_of, origin_of};
 ghost use Rattle.route_text.specs.Laws.{ReadsNumber, ReadsPrefix, ReadsRoute, ReadsOrigin};
 
+mod groups;
+
+use groups::Groups;
 use hex_text::nibble;
 use payload::{Family, Prefix};
 use std::fmt;
@@ -30,7 +33,7 @@ pub fn after_word<'a>(s: &'a [u8], word: &[u8]) -> Option<&'a [u8]>
 fn is_digit(c: u8) -> bool
     ensures { result ≡ is_digit c }
 {
-    c >= b'0' && c <= b'9'
+    c.is_ascii_digit()
 }
 
 // A number with one digit more, if it is not large already.
@@ -40,7 +43,7 @@ fn with_digit(value: u64, c: u8) -> u64
     ensures bound { result < 2 ^ 44 }
 {
     if value < 1_099_511_627_776 {
-        value * 10 + c.saturating_sub(b'0') as u64
+        value * 10 + u64::from(c.saturating_sub(b'0'))
     } else {
         value
     }
@@ -73,7 +76,7 @@ fn number_from<'a>(first: u8, rest: &'a [u8]) -> Option<(u64, &'a [u8])>
     if first == b'0' {
         return Some((0, rest));
     }
-    Some(digits_from(first.saturating_sub(b'0') as u64, rest))
+    Some(digits_from(u64::from(first.saturating_sub(b'0')), rest))
 }
 
 // The decimal number at the front of a text, without leading zeros, and the text after it.
@@ -88,22 +91,17 @@ pub fn number<'a>(s: &'a [u8]) -> Option<(u64, &'a [u8])>
 }
 
 // A decimal number below 256 at the front of a text.
-fn octet<'a>(s: &'a [u8]) -> Option<(u64, &'a [u8])>
-    ensures value { option_map beside result ≡ octet_of s.now }
-    ensures bound { IfSome result (λ p. p.0 < 256) }
+fn octet<'a>(s: &'a [u8]) -> Option<(u8, &'a [u8])>
+    ensures { option_map beside result ≡ octet_of s.now }
 {
     let (value, rest) = number(s)?;
-    if value < 256 {
-        Some((value, rest))
-    } else {
-        None
-    }
+    let value = u8::try_from(value).ok()?;
+    Some((value, rest))
 }
 
 // An octet with the dot after it.
-fn octet_dot<'a>(s: &'a [u8]) -> Option<(u64, &'a [u8])>
-    ensures value { option_map beside result ≡ octet_dot s.now }
-    ensures bound { IfSome result (λ p. p.0 < 256) }
+fn octet_dot<'a>(s: &'a [u8]) -> Option<(u8, &'a [u8])>
+    ensures { option_map beside result ≡ octet_dot s.now }
 {
     let (value, rest) = octet(s)?;
     let rest = after_word(rest, b".")?;
@@ -118,12 +116,12 @@ fn quad<'a>(s: &'a [u8]) -> Option<(u128, &'a [u8])>
     let (b, s) = octet_dot(s)?;
     let (c, s) = octet_dot(s)?;
     let (d, s) = octet(s)?;
-    let word = a * 16_777_216 + b * 65_536 + c * 256 + d;
-    Some((word as u128 * 79_228_162_514_264_337_593_543_950_336, s))
+    let word = u32::from_be_bytes([a, b, c, d]);
+    Some((u128::from(word) << 96, s))
 }
 
 // A value with one hexadecimal digit more, if one follows.
-fn grow<'a>(value: u64, s: &'a [u8]) -> (u64, &'a [u8])
+fn grow<'a>(value: u16, s: &'a [u8]) -> (u16, &'a [u8])
     requires { value < 4096 }
     ensures value { beside result ≡ grow value s.now }
     ensures bound { result.0 < value * 16 + 16 }
@@ -131,16 +129,15 @@ fn grow<'a>(value: u64, s: &'a [u8]) -> (u64, &'a [u8])
     match s {
         [] => (value, s),
         [first, rest @ ..] => match nibble(*first) {
-            Some(digit) => (value * 16 + digit as u64, rest),
+            Some(digit) => (value * 16 + u16::from(digit), rest),
             None => (value, s),
         },
     }
 }
 
 // The value of up to four hexadecimal digits.
-fn four<'a>(s: &'a [u8]) -> (u64, &'a [u8])
-    ensures value { beside result ≡ four_of s.now }
-    ensures bound { result.0 < 65536 }
+fn four<'a>(s: &'a [u8]) -> (u16, &'a [u8])
+    ensures { beside result ≡ four_of s.now }
 {
     let (value, s) = grow(0, s);
     let (value, s) = grow(value, s);
@@ -159,9 +156,8 @@ fn starts_hex(s: &[u8]) -> bool
 }
 
 // The group of one to four hexadecimal digits at the front of a text.
-fn group<'a>(s: &'a [u8]) -> Option<(u64, &'a [u8])>
-    ensures value { option_map beside result ≡ group_of s.now }
-    ensures bound { IfSome result (λ p. p.0 < 65536) }
+fn group<'a>(s: &'a [u8]) -> Option<(u16, &'a [u8])>
+    ensures { option_map beside result ≡ group_of s.now }
 {
     if !starts_hex(s) {
         return None;
@@ -183,37 +179,25 @@ fn past_colon<'a>(s: &'a [u8]) -> &'a [u8]
     if starts_hex(rest) { rest } else { s }
 }
 
-// Groups with a colon between: the number that they write, how many there are, and the text after them.
-#[derive(Clone, Copy)]
-struct Groups<'a> {
-    value: u128,
-    count: usize,
-    rest: &'a [u8],
-}
-
-// One group more, if one follows and eight are not there.
+// One group more, if one follows.
 fn next_group<'a>(run: Groups<'a>) -> Groups<'a>
-    requires few { run.count < 8 }
-    requires fits { run.value < 2 ^ (16 * run.count) }
+    requires { run.count < 8 }
     ensures value { run_of result ≡ with_group (run_of run.entry) (group_of run.entry.rest.now) }
     ensures bound { result.count ≤ run.entry.count + 1 }
-    ensures fits { result.value < 2 ^ (16 * result.count) }
 {
-    match group(run.rest) {
-        Some((value, rest)) => Groups {
-            value: run.value * 65_536 + value as u128,
-            count: run.count + 1,
-            rest: past_colon(rest),
-        },
-        None => run,
+    let Some((value, rest)) = group(run.rest) else {
+        return run;
+    };
+    Groups {
+        value: run.value * 65_536 + u128::from(value),
+        count: run.count + 1,
+        rest: past_colon(rest),
     }
 }
 
 // The groups at the front of a text, up to eight.
 fn up_to_eight<'a>(s: &'a [u8]) -> Groups<'a>
-    ensures value { run_of result ≡ groups_of 8 s.now }
-    ensures bound { result.count ≤ 8 }
-    ensures fits { result.value < 2 ^ (16 * result.count) }
+    ensures { run_of result ≡ groups_of 8 s.now }
 {
     let mut run = Groups {
         value: 0,
@@ -228,10 +212,6 @@ fn up_to_eight<'a>(s: &'a [u8]) -> Groups<'a>
 
 // The address of groups before and after a double colon, which stands for at least one group of zeros.
 fn join<'a>(head: Groups<'a>, tail: Groups<'a>) -> Option<(u128, &'a [u8])>
-    requires head_few { head.count ≤ 8 }
-    requires head_fits { head.value < 2 ^ (16 * head.count) }
-    requires tail_few { tail.count ≤ 8 }
-    requires tail_fits { tail.value < 2 ^ (16 * tail.count) }
     ensures { option_map beside result ≡ joined (run_of head.entry) (run_of tail.entry) }
 {
     if head.count + tail.count > 7 {
@@ -248,8 +228,6 @@ fn join<'a>(head: Groups<'a>, tail: Groups<'a>) -> Option<(u128, &'a [u8])>
 
 // The IPv6 address that begins with these groups: all eight, or fewer and then a double colon.
 fn six_from<'a>(head: Groups<'a>) -> Option<(u128, &'a [u8])>
-    requires few { head.count ≤ 8 }
-    requires fits { head.value < 2 ^ (16 * head.count) }
     ensures { option_map beside result ≡ six_from (run_of head.entry) }
 {
     if head.count == 8 {
@@ -281,7 +259,7 @@ fn read_address<'a>(s: &'a [u8]) -> Option<(Family, u128, &'a [u8])>
 fn length_of(number: u64) -> u8
     ensures { result ≡ length_of number }
 {
-    if number < 255 { number as u8 } else { 255 }
+    u8::try_from(number).unwrap_or(u8::MAX)
 }
 
 // The prefix at the front of a text, an address with a length, and the text after it. It need not be lawful.
@@ -338,23 +316,16 @@ fn read_asn(digits: &[u8]) -> Result<u32, Misspelt>
     ensures { result ≡ asn_of digits.now }
 {
     match number(digits) {
-        Some((asn, rest)) if rest.is_empty() && asn < 4_294_967_296 => Ok(asn as u32),
+        Some((asn, rest)) if rest.is_empty() => u32::try_from(asn).map_err(|_| Misspelt::Origin),
         _ => Err(Misspelt::Origin),
     }
-}
-
-// Whether two words are the same.
-fn same(a: &[u8], b: &[u8]) -> bool
-    ensures { result ≡ bytes_eq a.now b.now }
-{
-    a == b
 }
 
 // The origin that a word writes: an AS number, with or without `AS` in front, or `none`.
 pub fn read_origin(word: &[u8]) -> Result<Option<u32>, Misspelt>
     ensures { result ≡ origin_of word.now }
 {
-    if same(word, b"none") {
+    if word == b"none".as_slice() {
         return Ok(None);
     }
     let digits = match after_word(word, b"AS") {

@@ -7,10 +7,10 @@ pub overflow_add-result : goal.overflow_add-result
 overflow_add-result c =
     let h = c.args.head in
     let t = c.args.tail in
-    omega (arith, join_shift h.value h.count c.requires.head_fits c.requires.head_few, join_fits h.value h.count t.value t.count c.requires.head_fits c.requires.tail_fits c.if-head-tail-gt7.false)
+    omega (arith, join_shift h.value h.count h.fits h.few, join_fits h.value h.count t.value t.count h.fits t.fits c.if-head-tail-gt7.false)
 
 pub returns-then-head-eq0 : goal.returns-then-head-eq0
-returns-then-head-eq0 c = join_zero (run_of c.args.head) (run_of c.args.tail) c.requires.head_fits c.if-head-tail-gt7.false c.if-head-eq0.true
+returns-then-head-eq0 c = join_zero (run_of c.args.head) (run_of c.args.tail) c.args.head.fits c.if-head-tail-gt7.false c.if-head-eq0.true
 
 pub returns : goal.returns
-returns c = join_is (run_of c.args.head) (run_of c.args.tail) _ c.requires.head_fits c.if-head-tail-gt7.false refl
+returns c = join_is (run_of c.args.head) (run_of c.args.tail) _ c.args.head.fits c.if-head-tail-gt7.false refl
