@@ -78,15 +78,9 @@ pub struct BadLine {
 fn sized(asn: u64, prefix: Prefix, max: u64) -> Option<Payload>
     ensures { result ≡ sized_of asn prefix max }
 {
-    if asn < 4_294_967_296 && max < 256 {
-        Some(Payload {
-            asn: asn as u32,
-            prefix,
-            max: max as u8,
-        })
-    } else {
-        None
-    }
+    let asn = u32::try_from(asn).ok()?;
+    let max = u8::try_from(max).ok()?;
+    Some(Payload { prefix, max, asn })
 }
 
 // The payload of which a text may be the line.
