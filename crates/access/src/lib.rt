@@ -5,21 +5,20 @@
 // for the layout and on `names` for what a folder and a manifest's name are.
 #![tactic(auto)]
 
-ghost use Rattle.std.specs.Prelude.{◌≡◌, true, ◌&&◌};
+ghost use Rattle.std.specs.Prelude.{◌≡◌, ◌&&◌};
 ghost use Rattle.std.specs.Option.{option_map};
-ghost use Rattle.fault.specs.declared.Layer.TheVariants.{Certificate};
 ghost use Rattle.file_faults.specs.Reports.{certificate_report};
-ghost use Rattle.element.specs.Reading.{seen, octets_of};
+ghost use Rattle.element.specs.Reading.{octets_of};
 ghost use Rattle.layout.specs.Expecting.{told_by};
 ghost use Rattle.names.specs.Tests.{is_folder, is_manifest_name};
-ghost use Rattle.access.specs.Access.{names_in, agrees, stands_in, folder_in, manifest_in, other_in, described, row_of, descriptions_of, access_of, access_in};
+ghost use Rattle.access.specs.Access.{Names, names_in, agrees, stands_in, folder_in, manifest_in, other_in, described, descriptions_of, access_of, access_in};
 
-use element::{Element, Part, read};
+use element::{Element, Part};
 use fault::Rule;
 use file_faults::CertificateFault;
-use layout::{end, expect};
+use layout::{LayerFault, Row, end, expect, read_rows};
 use names::{is_folder, is_in_folder, is_manifest_name};
-use x509::{open, same};
+use x509::open;
 
 // Where an authority publishes: the folder, and the name of the manifest.
 #[derive(Clone, Copy)]
@@ -35,37 +34,18 @@ struct Found<'a> {
     manifest: Option<Part<'a>>,
 }
 
-// A rule of the certificate that is broken at a place.
-fn broken(rule: Rule, place: usize) -> CertificateFault
-    ensures { certificate_report result ≡ record { rule = rule; place = place; layer = Certificate } }
-{
-    CertificateFault::Own { rule, place }
-}
-
 // Whether octets are a folder, and that of the manifest where that is known.
 fn folder_test(octets: &[u8], manifest: Option<Part<'_>>) -> bool
     ensures { result ≡ (is_folder octets.now && agrees octets.now (option_map octets_of manifest.entry)) }
 {
-    if !is_folder(octets) {
-        return false;
-    }
-    match manifest {
-        None => true,
-        Some(name) => is_in_folder(name.octets, octets),
-    }
+    is_folder(octets) && manifest.is_none_or(|name| is_in_folder(name.octets, octets))
 }
 
 // Whether octets are a manifest's name, in the folder where that is known.
 fn manifest_test(octets: &[u8], folder: Option<Part<'_>>) -> bool
     ensures { result ≡ (is_manifest_name octets.now && stands_in octets.now (option_map octets_of folder.entry)) }
 {
-    if !is_manifest_name(octets) {
-        return false;
-    }
-    match folder {
-        None => true,
-        Some(part) => is_in_folder(octets, part.octets),
-    }
+    is_manifest_name(octets) && folder.is_none_or(|part| is_in_folder(octets, part.octets))
 }
 
 // The folder, from what follows the OID in its description.
@@ -74,7 +54,7 @@ fn read_folder<'a>(rest: Part<'a>, manifest: Option<Part<'_>>) -> Result<Part<'a
 {
     let (name, rest) = expect::<CertificateFault>(rest, 0x86)?;
     if !folder_test(name.content.octets, manifest) {
-        return Err(broken(Rule::Value, name.place));
+        return Err(CertificateFault::own(Rule::Value, name.place));
     }
     end::<CertificateFault>(rest)?;
     Ok(name.content)
@@ -86,7 +66,7 @@ fn read_manifest<'a>(rest: Part<'a>, folder: Option<Part<'_>>) -> Result<Part<'a
 {
     let (name, rest) = expect::<CertificateFault>(rest, 0x86)?;
     if !manifest_test(name.content.octets, folder) {
-        return Err(broken(Rule::Value, name.place));
+        return Err(CertificateFault::own(Rule::Value, name.place));
     }
     end::<CertificateFault>(rest)?;
     Ok(name.content)
@@ -101,63 +81,52 @@ fn pass_over<'a>(rest: Part<'a>) -> Result<Part<'a>, CertificateFault>
     Ok(name.content)
 }
 
-// Reads an access description: the folder or the manifest, each once, or another one.
-fn read_description<'a>(
-    found: Found<'a>,
-    description: &Element<'a>,
-) -> Result<Found<'a>, CertificateFault>
-    ensures { told_by certificate_report names_in result ≡ described (names_in found.entry) (seen description.now) }
-{
-    let Found { folder, manifest } = found;
-    let (oid, rest) = open::<CertificateFault>(description)?;
-    if same(oid.content.octets, b"\x2b\x06\x01\x05\x05\x07\x30\x05") {
-        if folder.is_some() {
-            return Err(broken(Rule::Structure, description.place));
-        }
-        return Ok(Found {
-            folder: Some(read_folder(rest, manifest)?),
-            manifest,
-        });
-    }
-    if same(oid.content.octets, b"\x2b\x06\x01\x05\x05\x07\x30\x0a") {
-        if manifest.is_some() {
-            return Err(broken(Rule::Structure, description.place));
-        }
-        return Ok(Found {
-            folder,
-            manifest: Some(read_manifest(rest, folder)?),
-        });
-    }
-    pass_over(rest)?;
-    Ok(Found { folder, manifest })
-}
+impl<'a> Row<'a, CertificateFault> for Found<'a> {
+    ghost Known = { Names };
 
-// What the descriptions of a row say.
-fn read_row<'a>(content: Part<'a>) -> Result<Found<'a>, CertificateFault>
-    ensures { told_by certificate_report names_in result ≡ row_of (octets_of content.entry) }
-{
-    let mut found = Found {
-        folder: None,
-        manifest: None,
-    };
-    let mut rest = content;
-    while !rest.octets.is_empty() {
-        let (description, following) = read(rest)?;
-        found = read_description(found, &description)?;
-        rest = following;
+    ghost view = { names_in };
+
+    ghost step = { described };
+
+    // Reads an access description: the folder or the manifest, each once, or another one.
+    fn take(self, description: &Element<'a>) -> Result<Found<'a>, CertificateFault> {
+        let Found { folder, manifest } = self;
+        let (oid, rest) = open::<CertificateFault>(description)?;
+        if oid.content.octets == b"\x2b\x06\x01\x05\x05\x07\x30\x05".as_slice() {
+            if folder.is_some() {
+                return Err(CertificateFault::own(Rule::Structure, description.place));
+            }
+            return Ok(Found {
+                folder: Some(read_folder(rest, manifest)?),
+                manifest,
+            });
+        }
+        if oid.content.octets == b"\x2b\x06\x01\x05\x05\x07\x30\x0a".as_slice() {
+            if manifest.is_some() {
+                return Err(CertificateFault::own(Rule::Structure, description.place));
+            }
+            return Ok(Found {
+                folder,
+                manifest: Some(read_manifest(rest, folder)?),
+            });
+        }
+        pass_over(rest)?;
+        Ok(Found { folder, manifest })
     }
-    Ok(found)
 }
 
 // The folder and the manifest's name, both of which have to stand.
 fn read_descriptions<'a>(content: Part<'a>) -> Result<Access<'a>, CertificateFault>
     ensures { told_by certificate_report access_in result ≡ descriptions_of (octets_of content.entry) }
 {
-    let end = content.place + content.octets.len();
-    let found = read_row(content)?;
+    let none = Found {
+        folder: None,
+        manifest: None,
+    };
+    let found = read_rows::<CertificateFault, Found<'a>>(content, none)?;
     match (found.folder, found.manifest) {
         (Some(folder), Some(manifest)) => Ok(Access { folder, manifest }),
-        _ => Err(broken(Rule::Structure, end)),
+        _ => Err(CertificateFault::own(Rule::Structure, content.end())),
     }
 }
 

@@ -7,23 +7,21 @@
 
 ghost use Rattle.std.specs.Prelude.{◌≡◌};
 ghost use Rattle.fault.specs.Faults.{reported};
-ghost use Rattle.fault.specs.declared.Layer.TheVariants.{Crl as CrlLayerOf};
 ghost use Rattle.file_faults.specs.Reports.{crl_report};
-ghost use Rattle.element.specs.Reading.{seen, octets_of};
+ghost use Rattle.element.specs.Reading.{octets_of};
 ghost use Rattle.layout.specs.Expecting.{told_by};
 ghost use Rattle.fields.specs.Fields.{both_of};
-ghost use Rattle.crl.specs.Rows.{row_of, row_step, revoked_of};
-ghost use Rattle.layout.specs.Rows.{rows_of};
-ghost use Rattle.crl.specs.Extensions.{found_in, key_of, number_of, extension_step, found_of, extensions_of};
+ghost use Rattle.crl.specs.Rows.{row_step, revoked_of};
+ghost use Rattle.crl.specs.Extensions.{Found, found_in, key_of, number_of, extension_step, extensions_of};
 ghost use Rattle.crl.specs.Lists.{front_in, front_of, tail_in, tail_of, wrapped_of, body_in, body_of, value_in, inside_of, file_of, crl_of};
 
-use element::{Element, Part, read};
+use element::{Element, Part};
 use fault::Rule;
 use fields::{constant_integer, number20, sequence, serial, time, whole};
 use file_faults::CrlFault;
-use layout::{end, expect, next};
+use layout::{LayerFault, Row, end, expect, next, read_rows};
 use moment::Moment;
-use x509::{key_identifier, open, same, seal, value_octets};
+use x509::{key_identifier, open, seal, value_octets};
 
 // A revocation list. `signed` is the inner SEQUENCE as a whole element, on which the issuer's key has signed; `revoked` has the rows
 // of revoked certificates, `key` the 20 octets of the issuer's key id.
@@ -39,36 +37,27 @@ pub struct Crl<'a> {
     pub signature: Part<'a>,
 }
 
-// A rule of the list that is broken at a place.
-fn broken(rule: Rule, place: usize) -> CrlFault
-    ensures { crl_report result ≡ record { rule = rule; place = place; layer = CrlLayerOf } }
-{
-    CrlFault::Own { rule, place }
-}
+// Nothing is kept of the rows of revoked certificates.
+#[derive(Clone, Copy)]
+struct Revoked;
 
-// Reads the row of a revoked certificate: its serial, and when it was revoked.
-fn read_row(row: &Element<'_>) -> Result<(), CrlFault>
-    ensures { reported crl_report result ≡ row_of (seen row.now) }
-{
-    if row.tag != 0x30 {
-        return Err(broken(Rule::Structure, row.place));
-    }
-    let (_, rest) = serial::<CrlFault>(row.content)?;
-    let (_, rest) = time::<CrlFault>(rest)?;
-    end::<CrlFault>(rest)
-}
+impl<'a> Row<'a, CrlFault> for Revoked {
+    ghost Known = { Unit {0} };
 
-// Reads the rows of revoked certificates.
-fn read_rows(content: Part<'_>) -> Result<(), CrlFault>
-    ensures { reported crl_report result ≡ rows_of row_step tt (octets_of content.entry) }
-{
-    let mut rest = content;
-    while !rest.octets.is_empty() {
-        let (row, following) = read(rest)?;
-        read_row(&row)?;
-        rest = following;
+    ghost view = { λ _. tt };
+
+    ghost step = { row_step };
+
+    // Reads the row of a revoked certificate: its serial, and when it was revoked.
+    fn take(self, row: &Element<'a>) -> Result<Revoked, CrlFault> {
+        if row.tag != 0x30 {
+            return Err(CrlFault::own(Rule::Structure, row.place));
+        }
+        let (_, rest) = serial::<CrlFault>(row.content)?;
+        let (_, rest) = time::<CrlFault>(rest)?;
+        end::<CrlFault>(rest)?;
+        Ok(self)
     }
-    Ok(())
 }
 
 // Reads the rows of revoked certificates, of which there is at least one.
@@ -76,9 +65,10 @@ fn read_revoked(content: Part<'_>) -> Result<(), CrlFault>
     ensures { reported crl_report result ≡ revoked_of (octets_of content.entry) }
 {
     if content.octets.is_empty() {
-        return Err(broken(Rule::Structure, content.place));
+        return Err(CrlFault::own(Rule::Structure, content.place));
     }
-    read_rows(content)
+    read_rows::<CrlFault, Revoked>(content, Revoked)?;
+    Ok(())
 }
 
 // What was found of the two extensions.
@@ -94,7 +84,7 @@ fn read_key<'a>(rest: Part<'a>) -> Result<Part<'a>, CrlFault>
 {
     let (value, rest) = value_octets::<CrlFault>(rest, false)?;
     let Some(key) = key_identifier(value.content, b"\x30\x16\x80\x14") else {
-        return Err(broken(Rule::Value, value.place));
+        return Err(CrlFault::own(Rule::Value, value.place));
     };
     end::<CrlFault>(rest)?;
     Ok(key)
@@ -111,56 +101,45 @@ fn read_number<'a>(rest: Part<'a>) -> Result<Part<'a>, CrlFault>
     Ok(number)
 }
 
-// Reads an extension: the issuer's key id or the list's number, each once.
-fn read_extension<'a>(
-    found: Extensions<'a>,
-    extension: &Element<'a>,
-) -> Result<Extensions<'a>, CrlFault>
-    ensures { told_by crl_report found_in result ≡ extension_step (found_in found.entry) (seen extension.now) }
-{
-    let Extensions { key, number } = found;
-    let (oid, rest) = open::<CrlFault>(extension)?;
-    if same(oid.content.octets, b"\x55\x1d\x23") && key.is_none() {
-        return Ok(Extensions {
-            key: Some(read_key(rest)?),
-            number,
-        });
-    }
-    if same(oid.content.octets, b"\x55\x1d\x14") && number.is_none() {
-        return Ok(Extensions {
-            key,
-            number: Some(read_number(rest)?),
-        });
-    }
-    Err(broken(Rule::Structure, extension.place))
-}
+impl<'a> Row<'a, CrlFault> for Extensions<'a> {
+    ghost Known = { Found };
 
-// What the extensions of a row say.
-fn read_row_of_extensions<'a>(content: Part<'a>) -> Result<Extensions<'a>, CrlFault>
-    ensures { told_by crl_report found_in result ≡ found_of (octets_of content.entry) }
-{
-    let mut found = Extensions {
-        key: None,
-        number: None,
-    };
-    let mut rest = content;
-    while !rest.octets.is_empty() {
-        let (extension, following) = read(rest)?;
-        found = read_extension(found, &extension)?;
-        rest = following;
+    ghost view = { found_in };
+
+    ghost step = { extension_step };
+
+    // Reads an extension: the issuer's key id or the list's number, each once.
+    fn take(self, extension: &Element<'a>) -> Result<Extensions<'a>, CrlFault> {
+        let Extensions { key, number } = self;
+        let (oid, rest) = open::<CrlFault>(extension)?;
+        if oid.content.octets == b"\x55\x1d\x23".as_slice() && key.is_none() {
+            return Ok(Extensions {
+                key: Some(read_key(rest)?),
+                number,
+            });
+        }
+        if oid.content.octets == b"\x55\x1d\x14".as_slice() && number.is_none() {
+            return Ok(Extensions {
+                key,
+                number: Some(read_number(rest)?),
+            });
+        }
+        Err(CrlFault::own(Rule::Structure, extension.place))
     }
-    Ok(found)
 }
 
 // The issuer's key id and the list's number, both of which have to stand.
 fn read_extensions<'a>(content: Part<'a>) -> Result<(Part<'a>, Part<'a>), CrlFault>
     ensures { told_by crl_report both_of result ≡ extensions_of (octets_of content.entry) }
 {
-    let end = content.place + content.octets.len();
-    let found = read_row_of_extensions(content)?;
+    let none = Extensions {
+        key: None,
+        number: None,
+    };
+    let found = read_rows::<CrlFault, Extensions<'a>>(content, none)?;
     match (found.key, found.number) {
         (Some(key), Some(number)) => Ok((key, number)),
-        _ => Err(broken(Rule::Structure, end)),
+        _ => Err(CrlFault::own(Rule::Structure, content.end())),
     }
 }
 
@@ -202,7 +181,7 @@ fn read_tail<'a>(rest: Part<'a>) -> Result<(Option<Part<'a>>, Element<'a>, Part<
         return Ok((Some(element.content), extensions, rest));
     }
     if element.tag != 0xa0 {
-        return Err(broken(Rule::Structure, element.place));
+        return Err(CrlFault::own(Rule::Structure, element.place));
     }
     Ok((None, element, rest))
 }
@@ -265,11 +244,7 @@ fn read_inside<'a>(content: Part<'a>) -> Result<Crl<'a>, CrlFault>
 pub fn read_crl<'a>(file: &'a [u8]) -> Result<Crl<'a>, CrlFault>
     ensures { told_by crl_report value_in result ≡ crl_of (file_of file.now) }
 {
-    let input = Part {
-        octets: file,
-        place: 0,
-    };
-    let (list, rest) = expect::<CrlFault>(input, 0x30)?;
+    let (list, rest) = expect::<CrlFault>(Part::whole(file), 0x30)?;
     let value = read_inside(list.content)?;
     end::<CrlFault>(rest)?;
     Ok(value)

@@ -6,21 +6,63 @@
 // as the same octets. It rests on `content` for the forms of contents.
 #![tactic(auto)]
 
-ghost use Rattle.std.specs.Prelude.{◌≡◌, ℕ, ◌+◌, ◌<◌, ◌≤◌, true, ◌++◌, length, take, drop, IfOk, OnOk, slice_index};
-ghost use Rattle.element.specs.Reading.{whole_of, longer_of, measured, Placed, answered, read_of};
+ghost use Rattle.std.specs.Prelude.{◌≡◌, ℕ, ◌+◌, ◌-◌, ◌<◌, ◌≤◌, true, ◌++◌, length, take, drop, IfOk, OnOk, slice_index};
+ghost use Rattle.element.specs.Reading.{whole_of, longer_of, measured, octets_of, answered, read_of};
 ghost use Rattle.element.specs.Lengths.{length_octets, header, encoded};
 ghost use Rattle.element.specs.Grammar.{Parsed, OneEncoding};
 ghost use Rattle.element.specs.Writing.{header_written, element_written, laid, ReadsBack};
 
 mod part;
 
-pub use part::{Element, Part};
-
 use content::check_form;
 use fault::{Breach, ElementFault, Rule};
+pub use part::{Element, Part};
 
 // The most octets that a content may have.
 pub const LONGEST: usize = 65_535;
+
+impl<'a> Part<'a> {
+    // All octets of a file.
+    pub fn whole(file: &'a [u8]) -> Part<'a>
+        ensures { octets_of result ≡ record { octets = file.now; place = 0 } }
+    {
+        Part {
+            octets: file,
+            place: 0,
+        }
+    }
+
+    // The offset after the last octet.
+    pub fn end(self) -> usize
+        ensures { result ≡ self.entry.place + length self.entry.octets.now }
+    {
+        self.place + self.octets.len()
+    }
+
+    // The octets after the first so many.
+    pub fn skip(self, size: usize) -> Part<'a>
+        requires { size ≤ length self.octets.now }
+        ensures { octets_of result ≡ record { octets = drop size self.entry.octets.now; place = self.entry.place + size } }
+    {
+        Part {
+            octets: &self.octets[size..],
+            place: self.place + size,
+        }
+    }
+
+    // The octets before `rest`, with which they end.
+    pub fn before(self, rest: Part<'_>) -> Part<'a>
+        requires { length rest.octets.now ≤ length self.octets.now }
+        ensures { octets_of result
+            ≡ record { octets = take (length self.entry.octets.now - length rest.entry.octets.now) self.entry.octets.now; place = self.entry.place } }
+    {
+        let size = self.octets.len() - rest.octets.len();
+        Part {
+            octets: &self.octets[..size],
+            place: self.place,
+        }
+    }
+}
 
 // The octets that tag and length take, and how many the content has.
 #[derive(Clone, Copy)]
@@ -123,10 +165,7 @@ pub fn read_first<'a>(file: &'a [u8]) -> Result<(Element<'a>, Part<'a>), Element
     ensures value { answered result ≡ read_of file.now 0 }
     ensures grammar { Parsed file.now 0 (answered result) }
 {
-    read(Part {
-        octets: file,
-        place: 0,
-    })
+    read(Part::whole(file))
 }
 
 // How many octets the tag and the length of a content take.

@@ -6,11 +6,11 @@
 // for times and on `entries` for AS numbers.
 #![tactic(auto)]
 
-ghost use Rattle.std.specs.Prelude.{◌≡◌, ◌<◌, ◌≤◌, length};
+ghost use Rattle.std.specs.Prelude.{◌≡◌, ◌<◌};
 ghost use Rattle.moment.specs.Calendar.{number_in};
 ghost use Rattle.element.specs.Reading.{seen, octets_of};
 ghost use Rattle.layout.specs.Expecting.{told_by};
-ghost use Rattle.fields.specs.Fields.{before, after_first, both_of, moment_and, whole_seen, is_constant, is_number20, is_serial, whole_of, sequence_of, constant_of, number20_of, serial_of, as_number_of, whole_bits_of, time_in, time_of, gtime_of};
+ghost use Rattle.fields.specs.Fields.{both_of, moment_and, whole_seen, is_constant, is_number20, is_serial, whole_of, sequence_of, constant_of, number20_of, serial_of, as_number_of, whole_bits_of, time_in, time_of, gtime_of};
 
 use element::{Element, Part};
 use fault::Rule;
@@ -82,18 +82,6 @@ pub fn serial<'a, F: LayerFault>(input: Part<'a>) -> Result<(Part<'a>, Part<'a>)
     Ok((element.content, rest))
 }
 
-// The octets after the first.
-fn after_first<'a>(part: Part<'a>) -> Part<'a>
-    requires { 0 < length part.octets.now }
-    ensures value { octets_of result ≡ after_first (octets_of part.entry) }
-{
-    let Part { octets, place } = part;
-    Part {
-        octets: &octets[1..],
-        place: place + 1,
-    }
-}
-
 // A BIT STRING without unused bits: its octets, and the octets after it.
 pub fn whole_bits<'a, F: LayerFault>(input: Part<'a>) -> Result<(Part<'a>, Part<'a>), F>
     ensures value { told_by F.told both_of result ≡ whole_bits_of F.layer (octets_of input.entry) }
@@ -103,7 +91,7 @@ pub fn whole_bits<'a, F: LayerFault>(input: Part<'a>) -> Result<(Part<'a>, Part<
     if content.is_empty() || content[0] != 0 {
         return Err(F::own(Rule::Value, element.place));
     }
-    Ok((after_first(element.content), rest))
+    Ok((element.content.skip(1), rest))
 }
 
 // The moment that an element says: UTCTime through 2049, GeneralizedTime from 2050.
@@ -145,19 +133,6 @@ pub fn gtime<'a, F: LayerFault>(input: Part<'a>) -> Result<(Moment, Part<'a>), F
     Ok((moment, rest))
 }
 
-// The octets of `input` before `rest`, with which it ends.
-fn front<'a>(input: Part<'a>, rest: Part<'_>) -> Part<'a>
-    requires { length rest.octets.now ≤ length input.octets.now }
-    ensures value { octets_of result ≡ before (octets_of input.entry) (octets_of rest.entry) }
-{
-    let Part { octets, place } = input;
-    let size = octets.len() - rest.octets.len();
-    Part {
-        octets: &octets[0..size],
-        place,
-    }
-}
-
 // An element of this tag: all its octets, tag and length too; the element; and the octets after it.
 pub fn whole<'a, F: LayerFault>(
     input: Part<'a>,
@@ -166,7 +141,7 @@ pub fn whole<'a, F: LayerFault>(
     ensures value { told_by F.told whole_seen result ≡ whole_of F.layer tag (octets_of input.entry) }
 {
     let (element, rest) = expect::<F>(input, tag)?;
-    Ok((front(input, rest), element, rest))
+    Ok((input.before(rest), element, rest))
 }
 
 // A SEQUENCE that is not looked into: all its octets, tag and length too, and the octets after it.

@@ -7,22 +7,14 @@
 
 ghost use Rattle.std.specs.Prelude.{◌≡◌, ◌≤◌, true, length};
 ghost use Rattle.std.specs.Option.{option_map};
-ghost use Rattle.std.specs.Str.{bytes_eq};
 ghost use Rattle.element.specs.Reading.{seen, octets_of};
 ghost use Rattle.layout.specs.Expecting.{told_by, part_of};
-ghost use Rattle.x509.specs.Shared.{is_true, opened_of, value_octets, skipped, is_key, key_after, seal_of};
+ghost use Rattle.x509.specs.Shared.{is_true, opened_of, value_octets, is_key, key_after, seal_of};
 
 use element::{Element, Part};
 use fault::Rule;
 use fields::{sequence, whole_bits};
 use layout::{LayerFault, end, expect, next};
-
-// Whether two octet strings are the same.
-pub fn same(a: &[u8], b: &[u8]) -> bool
-    ensures { result ≡ bytes_eq a.now b.now }
-{
-    a == b
-}
 
 // The OID of an extension, and the octets after it.
 pub fn open<'a, F: LayerFault>(extension: &Element<'a>) -> Result<(Element<'a>, Part<'a>), F>
@@ -38,7 +30,7 @@ pub fn open<'a, F: LayerFault>(extension: &Element<'a>) -> Result<(Element<'a>, 
 fn is_true(content: &[u8]) -> bool
     ensures { result ≡ is_true content.now }
 {
-    same(content, b"\xff")
+    content == b"\xff".as_slice()
 }
 
 // The OCTET STRING with the value of an extension, and the octets after it. A critical extension has a BOOLEAN before it that is true,
@@ -65,28 +57,12 @@ pub fn value_octets<'a, F: LayerFault>(
     Ok((element, after))
 }
 
-// The octets of a part after the first so many.
-fn skip<'a>(part: Part<'a>, size: usize) -> Part<'a>
-    requires { size ≤ length part.octets.now }
-    ensures value { octets_of result ≡ skipped size (octets_of part.entry) }
-{
-    let Part { octets, place } = part;
-    Part {
-        octets: &octets[size..],
-        place: place + size,
-    }
-}
-
 // Whether octets are this front and then 20 more.
 fn is_key(octets: &[u8], front: &[u8]) -> bool
     ensures test { result ≡ is_key front.now octets.now }
     ensures bound { result ≡ true → length front.now ≤ length octets.now }
 {
-    let size = front.len();
-    if octets.len() < 20 || octets.len() - 20 != size {
-        return false;
-    }
-    same(&octets[0..size], front)
+    octets.len() == front.len() + 20 && &octets[..front.len()] == front
 }
 
 // The key identifier in a value: 20 octets after this front, and nothing else.
@@ -96,7 +72,7 @@ pub fn key_identifier<'a>(value: Part<'a>, front: &[u8]) -> Option<Part<'a>>
     if !is_key(value.octets, front) {
         return None;
     }
-    Some(skip(value, front.len()))
+    Some(value.skip(front.len()))
 }
 
 // What follows a signed part: the same algorithm again, and the signature, whose octets it gives.
@@ -104,7 +80,7 @@ pub fn seal<'a, F: LayerFault>(rest: Part<'a>, algorithm: &[u8]) -> Result<Part<
     ensures value { told_by F.told octets_of result ≡ seal_of F.layer algorithm.now (octets_of rest.entry) }
 {
     let (again, rest) = sequence::<F>(rest)?;
-    if !same(algorithm, again.octets) {
+    if algorithm != again.octets {
         return Err(F::own(Rule::Value, again.place));
     }
     let (signature, rest) = whole_bits::<F>(rest)?;
