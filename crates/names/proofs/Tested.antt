@@ -1,7 +1,6 @@
 -- That the tests on names tell what the relations say. Assumes nothing.
-use Rattle.std.proofs.Common.{◌≡◌, ℕ, ◌+◌, ◌-◌, ◌<◌, ◌≤◌, Bool, true, false, ◌&&◌, leb, List, length, get_or, drop, Decides, sym, refl, ap, ◌∙◌, ⊎_elim, arith}
-use Rattle.std.specs.List.{AllByRecursion}
-use Rattle.std.proofs.lemmas.List.{at_drop_more, at_drop_all}
+use Rattle.std.proofs.Common.{◌≡◌, ℕ, ◌-◌, ◌<◌, ◌≤◌, Bool, ◌&&◌, leb, List, [], ◌∷◌, length, get_or, Decides, refl, ap, ⊎_elim, arith}
+use Rattle.std.specs.List.{AllByRecursion, list_all}
 use Rattle.std.proofs.lemmas.Bool.{leb-true, le-leb, cases_lt}
 use Rattle.std.proofs.lemmas.Bool.Decides.{Decides-and, Decides-or, Decides-eqb, Decides-ltb, Decides-like}
 use Rattle.std.proofs.ByRecursion.{Decides-by_and}
@@ -14,19 +13,10 @@ use Rattle.names.proofs.Folders.{size_end}
 pub decides_leb : (a b : ℕ) → Decides (leb a b) (a ≤ b)
 decides_leb a b = (leb-true a b, le-leb a b)
 
--- an octet that does not pass the test, one that does, and the end
-pub every-refused :
-    (test : ℕ → Bool) (s : List ℕ) (i : ℕ) → i < length s → every test (drop i s) ≡ every test s → false ≡ test (get_or s i 0)
-    → false ≡ every test s
-every-refused test s i l inv e = ap (λ (t : Bool). t && every test (drop (i + 1) s)) e ∙ sym (at_drop_more (every test) s i 0 l) ∙ inv
-
-pub every_more :
-    (test : ℕ → Bool) (s : List ℕ) (i : ℕ) → i < length s → every test (drop i s) ≡ every test s → true ≡ test (get_or s i 0)
-    → every test (drop (i + 1) s) ≡ every test s
-every_more test s i l inv e = ap (λ (t : Bool). t && every test (drop (i + 1) s)) e ∙ sym (at_drop_more (every test) s i 0 l) ∙ inv
-
-pub every_all : (test : ℕ → Bool) (s : List ℕ) (i : ℕ) → length s ≤ i → every test (drop i s) ≡ every test s → true ≡ every test s
-every_all test s i l inv = sym (at_drop_all (every test) s i l) ∙ inv
+-- the library's word for every
+pub every_is : (test : ℕ → Bool) (s : List ℕ) → list_all test s ≡ every test s
+every_is test [] = refl
+every_is test (c ∷ s) = ap (λ (b : Bool). test c && b) (every_is test s)
 
 between_decides : (a z c : ℕ) → Decides (between a z c) (Between a z c)
 between_decides a z c = Decides-and _ _ (decides_leb a c) (decides_leb c z)

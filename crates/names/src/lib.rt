@@ -5,7 +5,7 @@
 // all octets; none asks anything of its caller, and all rest on the octets alone.
 #![tactic(auto)]
 
-ghost use Rattle.std.specs.Prelude.{◌≡◌, ◌≤◌, true, length, drop, Decides, MatchOption};
+ghost use Rattle.std.specs.Prelude.{◌≡◌, true, Decides, MatchOption};
 ghost use Rattle.std.specs.Str.{bytes_eq};
 ghost use Rattle.names.specs.declared.Ending.{Ending as OneEnding};
 ghost use Rattle.names.specs.Tests.{is_of, every, folder_size, folder_of, base_of, is_name, is_folder, is_bare, ends_with, text_of, ending_of, is_manifest_name};
@@ -50,12 +50,7 @@ fn is_of(class: Class, octet: u8) -> bool
 fn all_of(class: Class, octets: &[u8]) -> bool
     ensures { result ≡ every (is_of class) octets.now }
 {
-    for c in octets {
-        if !is_of(class, *c) {
-            return false;
-        }
-    }
-    true
+    octets.iter().all(|c| is_of(class, *c))
 }
 
 // How many octets of a name its folder takes, through the last "/": 0 where there is none.
@@ -63,16 +58,13 @@ pub fn folder_len(name: &[u8]) -> usize
     ensures value { result ≡ folder_size name.now }
     ensures relation { FolderEnd name.now result }
 {
-    let mut size = 0;
-    for (i, c) in name.iter().enumerate() {
-        if *c == b'/' {
-            size = i + 1;
-        }
+    match name.iter().rposition(|c| *c == b'/') {
+        Some(last) => last + 1,
+        None => 0,
     }
-    size
 }
 
-// The test of a name.
+// The test of a name, apart from the call that says what it means: the check of both in one leaves goals open.
 fn name_test(octets: &[u8]) -> bool
     ensures { result ≡ is_name octets.now }
 {
@@ -91,7 +83,7 @@ pub fn is_name(octets: &[u8]) -> bool
     name_test(octets)
 }
 
-// The test of a folder.
+// The test of a folder, apart from the call that says what it means: the check of both in one leaves goals open.
 fn folder_test(octets: &[u8]) -> bool
     ensures { result ≡ is_folder octets.now }
 {
@@ -109,30 +101,21 @@ pub fn is_folder(octets: &[u8]) -> bool
     folder_test(octets)
 }
 
-// The octets from a place on.
-fn past<'a>(octets: &'a [u8], start: usize) -> &'a [u8]
-    requires { start ≤ length octets.now }
-    ensures { result.now ≡ drop start octets.now }
-{
-    &octets[start..]
-}
-
 // The folder of a name, through its last "/".
 fn folder<'a>(name: &'a [u8]) -> &'a [u8]
     ensures { result.now ≡ folder_of name.now }
 {
-    let size = folder_len(name);
-    &name[0..size]
+    &name[..folder_len(name)]
 }
 
 // What stands after the folder of a name.
 fn base<'a>(name: &'a [u8]) -> &'a [u8]
     ensures { result.now ≡ base_of name.now }
 {
-    past(name, folder_len(name))
+    &name[folder_len(name)..]
 }
 
-// The test of a bare name.
+// The test of a bare name, apart from the call that says what it means: the check of both in one leaves goals open.
 fn bare_test(octets: &[u8]) -> bool
     ensures { result ≡ is_bare octets.now }
 {
@@ -140,9 +123,9 @@ fn bare_test(octets: &[u8]) -> bool
         return false;
     }
     let dot = octets.len() - 4;
-    all_of(Class::Stem, &octets[0..dot])
+    all_of(Class::Stem, &octets[..dot])
         && octets[dot] == b'.'
-        && all_of(Class::Lower, past(octets, dot + 1))
+        && all_of(Class::Lower, &octets[dot + 1..])
 }
 
 // Whether octets are a bare name: letters, digits, "-" or "_", at least one, then "." and three letters a to z.
@@ -160,7 +143,7 @@ fn ends_with(octets: &[u8], text: &[u8]) -> bool
     octets.ends_with(text)
 }
 
-// The ending among the four that octets have.
+// The ending among the four that octets have, apart from the call that says what it means: the check of both in one leaves goals open.
 fn find_ending(octets: &[u8]) -> Option<Ending>
     ensures { result ≡ ending_of octets.now }
 {
@@ -187,7 +170,7 @@ pub fn ending_of(name: &[u8]) -> Option<Ending>
     find_ending(name)
 }
 
-// The test of a manifest's name.
+// The test of a manifest's name, apart from the call that says what it means: the check of both in one leaves goals open.
 fn manifest_test(octets: &[u8]) -> bool
     ensures { result ≡ is_manifest_name octets.now }
 {
@@ -206,20 +189,12 @@ pub fn is_manifest_name(octets: &[u8]) -> bool
     manifest_test(octets)
 }
 
-// Whether two runs of octets are the same.
-fn same(a: &[u8], b: &[u8]) -> bool
-    ensures value { result ≡ bytes_eq a.now b.now }
-    ensures relation { Decides result (a.now ≡ b.now) }
-{
-    a == b
-}
-
 // Whether the folder of a name is this one.
 pub fn is_in_folder(name: &[u8], given: &[u8]) -> bool
     ensures value { result ≡ bytes_eq (folder_of name.now) given.now }
     ensures relation { Decides result (folder_of name.now ≡ given.now) }
 {
-    same(folder(name), given)
+    folder(name) == given
 }
 
 // That the folder of a folder followed by a bare name is that folder.

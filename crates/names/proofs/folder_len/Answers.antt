@@ -1,10 +1,10 @@
-use Rattle.names.specs.Tests.{folder_size}
-use Rattle.names.proofs.Folders.{one_end, size_end, end_known}
+use Rattle.std.proofs.Common.{◌+◌, rules}
+use Rattle.names.specs.Names.{FolderEnd}
+use Rattle.names.proofs.Folders.{one_end, size_end}
 use Rattle.names.proofs.folder_len.Goals as goal
 
-pub returns : goal.returns
-returns c =
-    let s = c.args.name.now in
-    let l = c.loop-i in
-    let f = end_known s l.size l.i l.invariant.0 l.auto.i-end c.loop-i-test.false l.invariant.1 l.invariant.2 in
-    record { value = one_end s l.size (folder_size s) f (size_end s); relation = f }
+pub returns-in-Some-clause-value : goal.returns-in-Some-clause-value
+returns-in-Some-clause-value c = let f : FolderEnd c.args.name.now (c.in-Some.last + 1) = search rules in one_end c.args.name.now (c.in-Some.last + 1) _ f (size_end c.args.name.now)
+
+pub returns-in-None-clause-value : goal.returns-in-None-clause-value
+returns-in-None-clause-value c = let f : FolderEnd c.args.name.now 0 = search rules in one_end c.args.name.now 0 _ f (size_end c.args.name.now)
