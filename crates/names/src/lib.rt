@@ -64,9 +64,11 @@ pub fn folder_len(name: &[u8]) -> usize
     }
 }
 
-// The test of a name, apart from the call that says what it means: the check of both in one leaves goals open.
-fn name_test(octets: &[u8]) -> bool
-    ensures { result ≡ is_name octets.now }
+// Whether octets are a name: 1 to 128 from 21 to 7E, with a "/" and not ending with it.
+#[tactic(auto, using(crate::proofs::Tested::name_decides))]
+pub fn is_name(octets: &[u8]) -> bool
+    ensures value { result ≡ is_name octets.now }
+    ensures relation { Decides result (Name octets.now) }
 {
     if octets.len() > 128 || !all_of(Class::Visible, octets) {
         return false;
@@ -75,30 +77,16 @@ fn name_test(octets: &[u8]) -> bool
     0 < size && size < octets.len()
 }
 
-// Whether octets are a name: 1 to 128 from 21 to 7E, with a "/" and not ending with it.
-pub fn is_name(octets: &[u8]) -> bool
-    ensures value { result ≡ is_name octets.now }
-    ensures relation { Decides result (Name octets.now) }
-{
-    name_test(octets)
-}
-
-// The test of a folder, apart from the call that says what it means: the check of both in one leaves goals open.
-fn folder_test(octets: &[u8]) -> bool
-    ensures { result ≡ is_folder octets.now }
+// Whether octets are a folder: 1 to 127 from 21 to 7E, ending with "/".
+#[tactic(auto, using(crate::proofs::Tested::folder_decides))]
+pub fn is_folder(octets: &[u8]) -> bool
+    ensures value { result ≡ is_folder octets.now }
+    ensures relation { Decides result (Folder octets.now) }
 {
     if octets.is_empty() || octets.len() > 127 {
         return false;
     }
     all_of(Class::Visible, octets) && octets[octets.len() - 1] == b'/'
-}
-
-// Whether octets are a folder: 1 to 127 from 21 to 7E, ending with "/".
-pub fn is_folder(octets: &[u8]) -> bool
-    ensures value { result ≡ is_folder octets.now }
-    ensures relation { Decides result (Folder octets.now) }
-{
-    folder_test(octets)
 }
 
 // The folder of a name, through its last "/".
@@ -115,9 +103,11 @@ fn base<'a>(name: &'a [u8]) -> &'a [u8]
     &name[folder_len(name)..]
 }
 
-// The test of a bare name, apart from the call that says what it means: the check of both in one leaves goals open.
-fn bare_test(octets: &[u8]) -> bool
-    ensures { result ≡ is_bare octets.now }
+// Whether octets are a bare name: letters, digits, "-" or "_", at least one, then "." and three letters a to z.
+#[tactic(auto, using(crate::proofs::Bare::bare_decides))]
+pub fn is_bare(octets: &[u8]) -> bool
+    ensures value { result ≡ is_bare octets.now }
+    ensures relation { Decides result (Bare octets.now) }
 {
     if octets.len() < 5 {
         return false;
@@ -126,14 +116,6 @@ fn bare_test(octets: &[u8]) -> bool
     all_of(Class::Stem, &octets[..dot])
         && octets[dot] == b'.'
         && all_of(Class::Lower, &octets[dot + 1..])
-}
-
-// Whether octets are a bare name: letters, digits, "-" or "_", at least one, then "." and three letters a to z.
-pub fn is_bare(octets: &[u8]) -> bool
-    ensures value { result ≡ is_bare octets.now }
-    ensures relation { Decides result (Bare octets.now) }
-{
-    bare_test(octets)
 }
 
 // Whether octets end with others.
@@ -170,23 +152,17 @@ pub fn ending_of(name: &[u8]) -> Option<Ending>
     find_ending(name)
 }
 
-// The test of a manifest's name, apart from the call that says what it means: the check of both in one leaves goals open.
-fn manifest_test(octets: &[u8]) -> bool
-    ensures { result ≡ is_manifest_name octets.now }
+// Whether octets are the name of a manifest: a name that is a folder and a bare name that ends .mft.
+#[tactic(auto, using(crate::proofs::Bare::manifest_decides))]
+pub fn is_manifest_name(octets: &[u8]) -> bool
+    ensures value { result ≡ is_manifest_name octets.now }
+    ensures relation { Decides result (ManifestName octets.now) }
 {
     if !is_name(octets) {
         return false;
     }
     let own = base(octets);
     is_bare(own) && ends_with(own, b".mft")
-}
-
-// Whether octets are the name of a manifest: a name that is a folder and a bare name that ends .mft.
-pub fn is_manifest_name(octets: &[u8]) -> bool
-    ensures value { result ≡ is_manifest_name octets.now }
-    ensures relation { Decides result (ManifestName octets.now) }
-{
-    manifest_test(octets)
 }
 
 // Whether the folder of a name is this one.
