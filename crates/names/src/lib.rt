@@ -125,7 +125,8 @@ fn ends_with(octets: &[u8], text: &[u8]) -> bool
     octets.ends_with(text)
 }
 
-// The ending among the four that octets have, apart from the call that says what it means: the check of both in one leaves goals open.
+// The ending among the four that octets have. It stands apart from `ending_of`, whose relation the check does not
+// find beside the tests (tried: one function with slice patterns).
 fn find_ending(octets: &[u8]) -> Option<Ending>
     ensures { result ≡ ending_of octets.now }
 {
