@@ -79,8 +79,8 @@ fn counted_entry<P: Resource>(
 }
 
 // Writes a range into the table.
-fn store<P: Point>(table: &mut [Range<P>], at: usize, range: Range<P>)
-    requires { at < length table.old }
+fn store<P: Point>(table: &mut [Range<P>; MOST], at: usize, range: Range<P>)
+    requires { at < 256 }
     ensures { table.new ≡ slice_set table.old at range }
 {
     table[at] = range;
@@ -90,9 +90,8 @@ fn store<P: Point>(table: &mut [Range<P>], at: usize, range: Range<P>)
 // the table holds the entries before it, and past them, as always, what stood there before.
 pub fn read_entries<P: Resource>(
     content: Part<'_>,
-    table: &mut [Range<P>],
+    table: &mut [Range<P>; MOST],
 ) -> Result<usize, SetFault>
-    requires size { length table.old ≡ 256 }
     ensures value { reported set_report result ≡ counted (entries_of P.rank P.entry 256 None (octets_of content.entry)) }
     ensures table { table.new ≡ kept (entries_of P.rank P.entry 256 None (octets_of content.entry)).0 table.old }
 {

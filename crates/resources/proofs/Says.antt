@@ -6,7 +6,7 @@ use Rattle.fault.specs.declared.Layer.TheVariants.{Set}
 use Rattle.fault.specs.declared.Report.{Report}
 use Rattle.fault.specs.declared.ElementFault.{ElementFault}
 use Rattle.element.specs.Reading.{Seen, Octets, read_of}
-use Rattle.layout.specs.Expecting.{broken, then_read, end_of}
+use Rattle.layout.specs.Expecting.{any_tag, next_of, broken, then_read, end_of}
 use Rattle.ranges.specs.declared.Range.{Range}
 use Rattle.ranges.specs.Sets.{Lawful}
 use Rattle.entries.specs.Addresses.{inside}
@@ -14,7 +14,7 @@ use Rattle.lists.specs.Entries.{Reading, entries_of, counted}
 use Rattle.resources.specs.declared.Held.{Held}
 use Rattle.resources.specs.declared.Held.TheVariants as held
 use Rattle.resources.specs.declared.May.{May}
-use Rattle.resources.specs.Parts.{allowed, any_tag, next_of, chosen, choice_of, read_by, list_at, held_of, ranges_in, read_part, ranges_of}
+use Rattle.resources.specs.Parts.{allowed, chosen, choice_of, read_by, list_at, held_of, ranges_in, read_part, ranges_of}
 use Rattle.resources.specs.Meaning.{Next, Ended, Only, Rows, Inherits, Lists, PartSays}
 use Rattle.resources.proofs.Steps.{then_ok, cond_ok, cond_not, not_ended, end_ok, end_is}
 use Rattle.resources.proofs.Rows.{Forward, entries_taken, follow_ascending, ascending_follow, rows-read}
@@ -27,7 +27,7 @@ any_ok : (x : Result (Seen × Octets) ElementFault) (p : Seen × Octets) → Ok 
 any_ok (Err f) p e = let z : ◌≡◌ {A = ℕ} 0 1 = cc in absurd (omega arith)
 any_ok (Ok y) p e = cc
 
-next_ok : (q : Octets) (p : Seen × Octets) → Ok p ≡ next_of q → Next q p.0 p.1
+next_ok : (q : Octets) (p : Seen × Octets) → Ok p ≡ next_of Set q → Next q p.0 p.1
 next_ok q p e =
     let h = cond_not (eqb (length q.octets) 0) Set Structure q.place (any_tag (read_of q.octets q.place)) p e in
     any_ok (read_of q.octets q.place) p h.1
@@ -46,7 +46,7 @@ pub record Chosen (m : May) (q : Octets) (p : Seen × Octets) : Type 0 where
 
 choice_ok : (m : May) (q : Octets) (p : Seen × Octets) → Ok p ≡ choice_of m q → Chosen m q p
 choice_ok m q p e =
-    let a = then_ok (next_of q) (chosen m) p e in
+    let a = then_ok (next_of Set q) (chosen m) p e in
     let x = a.0 in
     let b = cond_ok (eqb x.0.tag 5 || eqb x.0.tag 48) Set Structure x.0.place (cond (allowed m x.0.tag) (Ok x) (broken Set Value x.0.place)) p a.2 in
     let c = cond_ok (allowed m x.0.tag) Set Value x.0.place (Ok x) p b.1 in
@@ -56,7 +56,7 @@ choice_ok m q p e =
 
 choice_is : (m : May) (q : Octets) (e : Seen) (after : Octets) → Next q e after → Says e.tag → allowed m e.tag ≡ true → choice_of m q ≡ Ok (e, after)
 choice_is m q e after n s a =
-    let next : next_of q ≡ Ok (e, after) =
+    let next : next_of Set q ≡ Ok (e, after) =
     cond-false (eqb (length q.octets) 0) _ _ (ne_eqb _ _ (not_ended q e after n)) ∙ ap any_tag n in
     ap (λ (x : Result (Seen × Octets) Report). then_read x (chosen m)) next
     ∙ cond-true (eqb e.tag 5 || eqb e.tag 48) _ _ (tag_test e.tag s)
@@ -203,7 +203,7 @@ module _ {P : Type 0} (rank : P → ℕ) (entry : Seen → Result (Range P) Repo
       → read_part rank entry m q ≡ broken Set Value e.place
   unfolding read_part ranges_of
   empty-refused m q e after n t none =
-      let next : next_of q ≡ Ok (e, after) =
+      let next : next_of Set q ≡ Ok (e, after) =
       cond-false (eqb (length q.octets) 0) _ _ (ne_eqb _ _ (not_ended q e after n)) ∙ ap any_tag n in
       let K = λ (p : Seen × Octets). then_read (held_of rank entry p.0) (λ h. then_read (end_of Set p.1) (λ _. Ok h)) in
       let c : choice_of m q ≡ cond (allowed m e.tag) (Ok (e, after)) (broken Set Value e.place) =

@@ -4,10 +4,8 @@ use Rattle.std.specs.Prelude.{ℕ, Bool, true, cond, ◌||◌, List, [], length,
 use Rattle.fault.specs.declared.Rule.TheVariants.{Structure, Value}
 use Rattle.fault.specs.declared.Layer.TheVariants.{Set}
 use Rattle.fault.specs.declared.Report.{Report}
-use Rattle.fault.specs.declared.ElementFault.{ElementFault}
-use Rattle.fault.specs.Faults.{element_report}
-use Rattle.element.specs.Reading.{Seen, Octets, read_of}
-use Rattle.layout.specs.Expecting.{broken, then_read, end_of}
+use Rattle.element.specs.Reading.{Seen, Octets}
+use Rattle.layout.specs.Expecting.{broken, then_read, next_of, end_of}
 use Rattle.ranges.specs.declared.Range.{Range}
 use Rattle.entries.specs.Addresses.{inside}
 use Rattle.lists.specs.Entries.{entries_of, counted}
@@ -29,15 +27,6 @@ allowed may.List tag = tag == 48
 allowed may.Inherit tag = tag == 5
 allowed may.Either tag = true
 
--- an element of any tag
-abbrev pub any_tag : Result (Seen × Octets) ElementFault → Result (Seen × Octets) Report
-any_tag (Err f) = Err (element_report f)
-any_tag (Ok p) = Ok p
-
--- the next element of a content; where none is left it is missing at the content's end
-abbrev pub next_of : Octets → Result (Seen × Octets) Report
-next_of q = cond (length q.octets == 0) (broken Set Structure q.place) (any_tag (read_of q.octets q.place))
-
 -- a part is said by a NULL or a SEQUENCE, and by one that may stand there
 abbrev pub chosen : May → Seen × Octets → Result (Seen × Octets) Report
 chosen m p =
@@ -46,7 +35,7 @@ chosen m p =
     (broken Set Structure p.0.place)
 
 abbrev pub choice_of : May → Octets → Result (Seen × Octets) Report
-choice_of m q = then_read (next_of q) (chosen m)
+choice_of m q = then_read (next_of Set q) (chosen m)
 
 -- what was read before the first fault: nothing where the reading did not come so far
 abbrev pub read_by : {V X : Type 0} → Result V Report → (V → List X) → List X

@@ -8,24 +8,23 @@
 #![tactic(auto)]
 
 ghost use Rattle.std.specs.Prelude.{◌≡◌, length};
-ghost use Rattle.fault.specs.declared.Layer.TheVariants.{Set};
 ghost use Rattle.fault.specs.Faults.{set_report, reported};
 ghost use Rattle.element.specs.Reading.{seen, octets_of};
 ghost use Rattle.layout.specs.Expecting.{told_by, part_of};
 ghost use Rattle.lists.specs.Entries.{kept};
-ghost use Rattle.resources.specs.Parts.{allowed, next_of, choice_of, held_of, ranges_in, read_part, ranges_of};
+ghost use Rattle.resources.specs.Parts.{allowed, choice_of, held_of, ranges_in, read_part, ranges_of};
 ghost use Rattle.points.specs.Ranks.{v6_rank};
 ghost use Rattle.entries.specs.Kinds.{v6_entry};
 ghost use Rattle.resources.specs.Values.{family_of, head_of, no_more, last_of, second_of, second_ranges, families_of, families_v4, families_v6, addresses_of, addresses_v4, addresses_v6, address_tables, asn_of, asn_ranges, asn_tables, alone, fresh_tables};
 ghost use Rattle.resources.specs.Meaning.{Tells, AddressesSay, AsnSays, addresses_listed, asn_listed, AddressListIn, AsnListIn, EmptyRefused};
 
-use element::{Element, Part, read};
+use element::{Element, Part};
 use entries::Resource;
 use fault::{Rule, SetFault};
-use layout::{end, expect};
+use layout::{LayerFault, end, expect, next};
 use lists::read_entries;
 use points::{Asn, V4, V6};
-use ranges::Range;
+use ranges::{MOST, Range};
 
 // What a certificate says of one part of its resources. A list's SEQUENCE stands at the offset `place` of the file, and
 // its `count` ranges stand at the front of the table of their kind.
@@ -54,9 +53,9 @@ pub struct Addresses {
 // The tables that lists are read into, one of full size for each kind of points.
 #[derive(Drop)]
 pub struct Tables {
-    pub v4: [Range<V4>; 256],
-    pub v6: [Range<V6>; 256],
-    pub asn: [Range<Asn>; 256],
+    pub v4: [Range<V4>; MOST],
+    pub v6: [Range<V6>; MOST],
+    pub asn: [Range<Asn>; MOST],
 }
 
 impl Tables {
@@ -71,24 +70,17 @@ impl Tables {
             v4: [Range {
                 first: v4,
                 last: v4,
-            }; 256],
+            }; MOST],
             v6: [Range {
                 first: v6,
                 last: v6,
-            }; 256],
+            }; MOST],
             asn: [Range {
                 first: asn,
                 last: asn,
-            }; 256],
+            }; MOST],
         }
     }
-}
-
-// A rule of the set that is broken at a place.
-fn broken(rule: Rule, place: usize) -> SetFault
-    ensures { set_report result ≡ record { rule = rule; place = place; layer = Set } }
-{
-    SetFault::Own { rule, place }
 }
 
 // Whether an element of this tag, a NULL or a SEQUENCE, may stand in a part.
@@ -102,33 +94,25 @@ fn allows(may: May, tag: u8) -> bool
     }
 }
 
-// The next element of a content, of any tag, and the octets after it.
-fn next<'a>(input: Part<'a>) -> Result<(Element<'a>, Part<'a>), SetFault>
-    ensures value { told_by set_report part_of result ≡ next_of (octets_of input.entry) }
-{
-    if input.octets.is_empty() {
-        return Err(broken(Rule::Structure, input.place));
-    }
-    Ok(read(input)?)
-}
-
 // The NULL or the SEQUENCE in which a part is said, one that may stand there, and the octets after it.
 fn choice<'a>(input: Part<'a>, may: May) -> Result<(Element<'a>, Part<'a>), SetFault>
     ensures value { told_by set_report part_of result ≡ choice_of may (octets_of input.entry) }
 {
-    let (element, rest) = next(input)?;
+    let (element, rest) = next::<SetFault>(input)?;
     if element.tag != 0x05 && element.tag != 0x30 {
-        return Err(broken(Rule::Structure, element.place));
+        return Err(SetFault::own(Rule::Structure, element.place));
     }
     if !allows(may, element.tag) {
-        return Err(broken(Rule::Value, element.place));
+        return Err(SetFault::own(Rule::Value, element.place));
     }
     Ok((element, rest))
 }
 
 // What a NULL or a SEQUENCE says of a part: it is inherited, or a list with at least one entry.
-fn held_in<P: Resource>(element: &Element<'_>, table: &mut [Range<P>]) -> Result<Held, SetFault>
-    requires size { length table.old ≡ 256 }
+fn held_in<P: Resource>(
+    element: &Element<'_>,
+    table: &mut [Range<P>; MOST],
+) -> Result<Held, SetFault>
     ensures value { reported set_report result ≡ held_of P.rank P.entry (seen element.now) }
     ensures table { table.new ≡ kept (ranges_in P.rank P.entry (seen element.now)) table.old }
 {
@@ -136,7 +120,7 @@ fn held_in<P: Resource>(element: &Element<'_>, table: &mut [Range<P>]) -> Result
         return Ok(Held::Inherited);
     }
     if element.content.octets.is_empty() {
-        return Err(broken(Rule::Value, element.place));
+        return Err(SetFault::own(Rule::Value, element.place));
     }
     let count = read_entries(element.content, table)?;
     Ok(Held::List {
@@ -149,9 +133,8 @@ fn held_in<P: Resource>(element: &Element<'_>, table: &mut [Range<P>]) -> Result
 fn read_part<P: Resource>(
     content: Part<'_>,
     may: May,
-    table: &mut [Range<P>],
+    table: &mut [Range<P>; MOST],
 ) -> Result<Held, SetFault>
-    requires size { length table.old ≡ 256 }
     ensures value { reported set_report result ≡ read_part P.rank P.entry may (octets_of content.entry) }
     ensures table { table.new ≡ kept (ranges_of P.rank P.entry may (octets_of content.entry)) table.old }
 {
@@ -178,7 +161,7 @@ fn head<'a>(content: Part<'a>, before: u8) -> Result<(u8, Part<'a>), SetFault>
     let (name, rest) = expect::<SetFault>(content, 0x04)?;
     let number = family_number(name.content.octets);
     if number <= before {
-        return Err(broken(Rule::Value, name.place));
+        return Err(SetFault::own(Rule::Value, name.place));
     }
     Ok((number, rest))
 }
@@ -200,9 +183,8 @@ fn last_family(
     content: Part<'_>,
     rest: Part<'_>,
     may: May,
-    v6: &mut [Range<V6>],
+    v6: &mut [Range<V6>; MOST],
 ) -> Result<Held, SetFault>
-    requires size { length v6.old ≡ 256 }
     ensures value { reported set_report result ≡ last_of may (octets_of content.entry) (octets_of rest.entry) }
     ensures table { v6.new ≡ kept (ranges_of v6_rank v6_entry may (octets_of content.entry)) v6.old }
 {
@@ -212,8 +194,7 @@ fn last_family(
 }
 
 // What is said of IPv6 after IPv4.
-fn second(rest: Part<'_>, may: May, v6: &mut [Range<V6>]) -> Result<Held, SetFault>
-    requires size { length v6.old ≡ 256 }
+fn second(rest: Part<'_>, may: May, v6: &mut [Range<V6>; MOST]) -> Result<Held, SetFault>
     ensures value { reported set_report result ≡ second_of may (octets_of rest.entry) }
     ensures table { v6.new ≡ kept (second_ranges may (octets_of rest.entry)) v6.old }
 {
@@ -229,10 +210,9 @@ fn second(rest: Part<'_>, may: May, v6: &mut [Range<V6>]) -> Result<Held, SetFau
 fn families(
     content: Part<'_>,
     may: May,
-    v4: &mut [Range<V4>],
-    v6: &mut [Range<V6>],
+    v4: &mut [Range<V4>; MOST],
+    v6: &mut [Range<V6>; MOST],
 ) -> Result<Addresses, SetFault>
-    requires size { (length v4.old ≡ 256) × (length v6.old ≡ 256) }
     ensures value { reported set_report result ≡ families_of may (octets_of content.entry) }
     ensures v4 { v4.new ≡ kept (families_v4 may (octets_of content.entry)) v4.old }
     ensures v6 { v6.new ≡ kept (families_v6 may (octets_of content.entry)) v6.old }
@@ -258,10 +238,9 @@ fn families(
 fn addresses_in(
     value: Part<'_>,
     may: May,
-    v4: &mut [Range<V4>],
-    v6: &mut [Range<V6>],
+    v4: &mut [Range<V4>; MOST],
+    v6: &mut [Range<V6>; MOST],
 ) -> Result<Addresses, SetFault>
-    requires size { (length v4.old ≡ 256) × (length v6.old ≡ 256) }
     ensures value { reported set_report result ≡ addresses_of may (octets_of value.entry) }
     ensures v4 { v4.new ≡ kept (addresses_v4 may (octets_of value.entry)) v4.old }
     ensures v6 { v6.new ≡ kept (addresses_v6 may (octets_of value.entry)) v6.old }
@@ -273,8 +252,7 @@ fn addresses_in(
 }
 
 // What the value of the extension for AS numbers says.
-fn asn_in(value: Part<'_>, may: May, asn: &mut [Range<Asn>]) -> Result<Held, SetFault>
-    requires size { length asn.old ≡ 256 }
+fn asn_in(value: Part<'_>, may: May, asn: &mut [Range<Asn>; MOST]) -> Result<Held, SetFault>
     ensures value { reported set_report result ≡ asn_of may (octets_of value.entry) }
     ensures table { asn.new ≡ kept (asn_ranges may (octets_of value.entry)) asn.old }
 {

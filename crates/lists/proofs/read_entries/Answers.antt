@@ -1,4 +1,4 @@
-use Rattle.std.proofs.Common.{◌+◌, List, Some, sym, subst}
+use Rattle.std.proofs.Common.{◌≡◌, ◌+◌, List, length, Some, sym, subst, rules}
 use Rattle.ranges.specs.declared.Range.{Range}
 use Rattle.std.proofs.lemmas.Result.{err_from_is_err_and}
 use Rattle.element.specs.Reading.{octets_of, seen}
@@ -7,7 +7,9 @@ use Rattle.lists.proofs.Going.{Going, begun, more, finished, faulted, no-element
 use Rattle.lists.proofs.read_entries.Goals as goal
 
 pub loop-rest-init : goal.loop-rest-init
-loop-rest-init g c = begun g.P.Point.rank g.P.Resource.entry (octets_of c.args.content) c.args.table.now c.requires.size
+loop-rest-init g c =
+    let size : length c.args.table.now ≡ 256 = search rules in
+    begun g.P.Point.rank g.P.Resource.entry (octets_of c.args.content) c.args.table.now size
 
 pub returns-in_err-element : goal.returns-in_err-element
 returns-in_err-element g c =
