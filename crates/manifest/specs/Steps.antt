@@ -1,15 +1,14 @@
 -- What reading the entries one after the other leaves in the lent tables. Assumes nothing.
-use Rattle.std.specs.Prelude.{◌≡◌, ℕ, ◌+◌, ◌≤◌, List, [], ◌∷◌, ◌++◌, map, length, drop, Ok, Err, Result}
+use Rattle.std.specs.Prelude.{◌≡◌, ℕ, ◌+◌, ◌≤◌, ◌⊎◌, List, [], ◌∷◌, ◌++◌, map, length, drop, Ok, Err, Result}
 use Rattle.fault.specs.declared.Report.{Report}
 use Rattle.file_faults.specs.Reports.{content_report}
+use Rattle.element.specs.declared.part.Part.{Part}
 use Rattle.element.specs.Reading.{Octets, octets_of}
 use Rattle.layout.specs.Expecting.{inside}
 use Rattle.repeats.specs.declared.Spot.{Spot}
 use Rattle.repeats.specs.Repeats.{Notes}
 use Rattle.repeats.specs.Reading.{noted}
 use Rattle.manifest.specs.declared.ManifestEntry.{ManifestEntry}
-use Rattle.manifest.specs.declared.Step.{Step}
-use Rattle.manifest.specs.declared.Step.TheVariants.{Unread, Named, Taken}
 use Rattle.manifest.specs.declared.Stopped.{Stopped}
 use Rattle.manifest.specs.Manifests.{Opened, Begun, State, listed, opened_of, digest_of, entry_reader}
 
@@ -36,11 +35,15 @@ pub record Begins (q : Octets) (n : ℕ) (ss zs : List Spot) (fault : Report) : 
   pub breaks : digest_of opened.inner ≡ Err fault
   pub notes : NotesOne opened n ss zs
 
+-- an entry with a fault, before its name was read or after it
+abbrev pub Stops : Octets → ℕ → List Spot → List Spot → Stopped → Type 0
+Stops q n ss zs e =
+    ((e.noted ≡ n) × (opened_of q ≡ Err (content_report e.fault)) × (zs ≡ ss)) ⊎ ((e.noted ≡ n + 1) × Begins q n ss zs (content_report e.fault))
+
 -- how one entry was read, where so many stand before it
-abbrev pub Stepped : Octets → ℕ → List Spot → List Spot → List ManifestEntry → List ManifestEntry → Step → Type 0
-Stepped q n ss zs ts us (Unread f) = (opened_of q ≡ Err (content_report f)) × (zs ≡ ss)
-Stepped q n ss zs ts us (Named f) = Begins q n ss zs (content_report f)
-Stepped q n ss zs ts us (Taken p) = Took q n ss zs ts us (octets_of p)
+abbrev pub Stepped : Octets → ℕ → List Spot → List Spot → List ManifestEntry → List ManifestEntry → Result Part Stopped → Type 0
+Stepped q n ss zs ts us (Ok p) = Took q n ss zs ts us (octets_of p)
+Stepped q n ss zs ts us (Err e) = Stops q n ss zs e
 
 -- the names of the entries that were begun are noted
 pub record NotedAs (q : Octets) (n : ℕ) (ss : List Spot) (parts : List Begun) (end : Result State Report) : Type 0 where

@@ -26,7 +26,7 @@ use file_faults::ContentFault;
 use layout::{LayerFault, end, expect};
 use moment::Moment;
 use names::is_bare;
-use repeats::{Spot, note, repeat_place, same};
+use repeats::{Spot, note, repeat_place};
 
 // The most entries that a manifest of 65,535 octets can have, and one that is cut short: an entry takes 44 octets.
 pub const MOST_ENTRIES: usize = 1_490;
@@ -59,14 +59,6 @@ struct Front<'a> {
     name: Element<'a>,
     inner: Part<'a>,
     after: Part<'a>,
-}
-
-// What became of an entry: a fault before its name was read or after it, or what follows the entry.
-#[derive(Clone, Copy)]
-enum Step<'a> {
-    Unread(ContentFault),
-    Named(ContentFault),
-    Taken(Part<'a>),
 }
 
 // How the reading of entries stopped: how many names were noted, and the fault.
@@ -108,19 +100,23 @@ fn read_digest<'a>(input: Part<'a>) -> Result<Part<'a>, ContentFault>
     Ok(digest)
 }
 
-// Reads the next entry, notes its name and writes it into the table, where so many entries stand before it.
+// Reads the next entry, notes its name and writes it into the table, where so many entries stand before it. It answers the
+// octets after the entry.
 fn take_entry<'a>(
     input: Part<'a>,
     table: &mut [ManifestEntry<'a>],
     spots: &mut [Spot<'a>],
     count: usize,
-) -> Step<'a>
+) -> Result<Part<'a>, Stopped>
     requires room { (count < length table.old) × (count < length spots.old) }
     ensures value { Stepped (octets_of input.entry) count spots.old spots.new table.old table.new result }
 {
     let front = match read_front(input) {
         Ok(front) => front,
-        Err(fault) => return Step::Unread(fault),
+        Err(fault) => return Err(Stopped {
+            noted: count,
+            fault,
+        }),
     };
     note(spots, count, front.name.content.octets, front.name.place);
     match read_digest(front.inner) {
@@ -129,13 +125,17 @@ fn take_entry<'a>(
                 name: front.name.content,
                 digest,
             };
-            Step::Taken(front.after)
+            Ok(front.after)
         },
-        Err(fault) => Step::Named(fault),
+        Err(fault) => Err(Stopped {
+            noted: count + 1,
+            fault,
+        }),
     }
 }
 
-// Reads the entries of a content into the table and notes their names, up to the first fault.
+// Reads the entries of a content into the table and notes their names, up to the first fault. The table and the spots stay slices, and
+// no arrays of full size: a caller may lend longer ones, and what stands past the entries in them is told.
 fn note_entries<'a>(
     content: Part<'a>,
     table: &mut [ManifestEntry<'a>],
@@ -148,20 +148,8 @@ fn note_entries<'a>(
     let mut rest = content;
     let mut count = 0;
     while !rest.octets.is_empty() {
-        match take_entry(rest, table, spots, count) {
-            Step::Unread(fault) => return Err(Stopped {
-                noted: count,
-                fault,
-            }),
-            Step::Named(fault) => return Err(Stopped {
-                noted: count + 1,
-                fault,
-            }),
-            Step::Taken(after) => {
-                rest = after;
-                count += 1;
-            },
-        }
+        rest = take_entry(rest, table, spots, count)?;
+        count += 1;
     }
     Ok(count)
 }
@@ -174,10 +162,7 @@ fn unless_repeat(
     ensures { result ≡ unless_repeat named_twice repeat ended }
 {
     match repeat {
-        Some(place) => Err(ContentFault::Own {
-            rule: Rule::Value,
-            place,
-        }),
+        Some(place) => Err(ContentFault::own(Rule::Value, place)),
         None => ended,
     }
 }
@@ -203,10 +188,7 @@ fn read_entries<'a>(
 fn is_sha256(content: &[u8]) -> bool
     ensures { result ≡ bytes_eq content.now sha256 }
 {
-    same(
-        content,
-        &[0x60, 0x86, 0x48, 0x01, 0x65, 0x03, 0x04, 0x02, 0x01],
-    )
+    content == [0x60, 0x86, 0x48, 0x01, 0x65, 0x03, 0x04, 0x02, 0x01].as_slice()
 }
 
 // The digest algorithm, which is SHA-256: the octets after it.

@@ -1,9 +1,11 @@
-use Rattle.std.proofs.Common.{◌≡◌, ℕ, ◌+◌, ◌≤◌, List, length, Err, sym, ap, subst, arith}
+use Rattle.std.proofs.Common.{ℕ, ◌+◌, ◌≤◌, List, [], ◌∷◌, ◌++◌, length, Err, sym, ap, subst, inl, inr, arith}
+use Rattle.std.proofs.lemmas.Result.{err_from_is_err_and}
 use Rattle.element.specs.Reading.{Octets, octets_of}
 use Rattle.file_faults.specs.Reports.{content_report}
 use Rattle.layout.proofs.Rows.{some_left, none_left}
 use Rattle.repeats.specs.declared.Spot.{Spot}
-use Rattle.manifest.specs.Steps.{NotedAs}
+use Rattle.manifest.specs.Manifests.{Begun, listed}
+use Rattle.manifest.specs.Steps.{NotedAs, Ended}
 use Rattle.manifest.proofs.Entries.{begun, finished, unread, named, more, room_left}
 use Rattle.manifest.proofs.Sizes.{entry_size}
 use Rattle.manifest.proofs.note_entries.Goals as goal
@@ -11,30 +13,35 @@ use Rattle.manifest.proofs.note_entries.Goals as goal
 pub loop-rest-init : goal.loop-rest-init
 loop-rest-init c = begun (octets_of c.args.content) c.args.spots.now c.args.table.now
 
-pub returns-in-Unread : goal.returns-in-Unread
-returns-in-Unread c =
+pub returns-in_err-rest : goal.returns-in_err-rest
+returns-in_err-rest c =
     let l = c.loop-rest in
+    let q₀ = octets_of c.args.content in
     let q = octets_of l.rest in
     let g = l.invariant in
-    let e : c.take_entry.new.spots ≡ l.spots = c.in-Unread.ensures.value.1 in
-    let w = room_left l.count _ _ (length l.spots) g.octets c.requires.size (subst (λ (m : ℕ). 1490 ≤ m) (sym c.loop-rest.auto.spots) c.requires.room.1) in (
-      g.parts,
-      subst (λ (ss : List Spot). NotedAs (octets_of c.args.content) l.count ss g.parts (Err (content_report c.in-Unread.fault))) (sym e)
-          (unread (octets_of c.args.content) c.args.table.now q l.count l.spots l.table (content_report c.in-Unread.fault) w.0 (some_left _ c.loop-rest-test.ensures) c.in-Unread.ensures.value.0 g),
-    )
-
-pub returns-in-Named : goal.returns-in-Named
-returns-in-Named c =
-    let l = c.loop-rest in
-    let q = octets_of l.rest in
-    let g = l.invariant in
+    let ts = c.args.table.now in
     let w = room_left l.count _ _ (length l.spots) g.octets c.requires.size (subst (λ (m : ℕ). 1490 ≤ m) (sym c.loop-rest.auto.spots) c.requires.room.1) in
-    let v : l.count + 1 ≤ length c.take_entry.new.spots = subst (λ (m : ℕ). l.count + 1 ≤ m) (sym c.take_entry.auto.spots) w.1 in
-    (_, named (octets_of c.args.content) c.args.table.now q l.count l.spots c.take_entry.new.spots l.table (content_report c.in-Named.fault) v (some_left _ c.loop-rest-test.ensures) c.in-Named.ensures.value g)
+    let some = some_left _ c.loop-rest-test.ensures in
+    let zs = c.take_entry.new.spots in
+    let e = c.in_err-rest.field-0.0 in
+    let v : l.count + 1 ≤ length zs = subst (λ (m : ℕ). l.count + 1 ≤ m) (sym c.take_entry.auto.spots) w.1 in
+    let p = err_from_is_err_and c.from_residual.result c.from_residual.ensures.1 in
+    let h : Ended q₀ zs ts c.take_entry.new.table (Err e) =
+    elim c.in_err-rest.ensures.value [
+      | inl u ↦
+          let r = unread q₀ ts q l.count l.spots l.table (content_report e.fault) w.0 some u.1 g in
+          let x : NotedAs q₀ e.noted l.spots g.parts (Err (content_report e.fault)) = subst (λ (n : ℕ). NotedAs q₀ n l.spots g.parts (Err (content_report e.fault))) (sym u.0) r in
+          (g.parts, subst (λ (ss : List Spot). NotedAs q₀ e.noted ss g.parts (Err (content_report e.fault))) (sym u.2) x)
+      | inr b ↦
+          let r = named q₀ ts q l.count l.spots zs l.table (content_report e.fault) v some b.1 g in
+          let ps : List Begun = g.parts ++ (b.1.opened, listed l.count l.table) ∷ [] in
+          (ps, subst (λ (n : ℕ). NotedAs q₀ n zs ps (Err (content_report e.fault))) (sym b.0) r)
+    ] in
+    rw p.1 (rw p.2 h)
 
 pub loop-rest-smaller : goal.loop-rest-smaller
 loop-rest-smaller c =
-    let t = c.in-Taken.ensures.value in
+    let t = c.in_ok-rest.ensures.value in
     let s = entry_size (octets_of c.loop-rest.rest) t.opened t.digest t.opens t.digests in
     let e = ap (λ (o : Octets). length o.octets) t.after_is in
     omega arith
@@ -43,8 +50,8 @@ pub loop-rest-preserved : goal.loop-rest-preserved
 loop-rest-preserved c =
     let l = c.loop-rest in
     let q = octets_of l.rest in
-    let z = octets_of c.in-Taken.after in
-    let t = c.in-Taken.ensures.value in
+    let z = octets_of c.in_ok-rest.rest in
+    let t = c.in_ok-rest.ensures.value in
     let s = entry_size q t.opened t.digest t.opens t.digests in
     let long : 44 + length z.octets ≤ length q.octets = subst (λ (o : Octets). 44 + length o.octets ≤ length q.octets) t.after_is s in
     more (octets_of c.args.content) c.args.table.now q z l.count l.spots c.take_entry.new.spots l.table c.take_entry.new.table (some_left _ c.loop-rest-test.ensures) long t l.invariant

@@ -1,4 +1,4 @@
-use Rattle.std.proofs.Common.{sym, refl, arith}
+use Rattle.std.proofs.Common.{sym, refl, inl, inr, arith}
 use Rattle.std.proofs.lemmas.List.{drop-set-lt}
 use Rattle.element.specs.Reading.{octets_of}
 use Rattle.manifest.specs.Manifests.{front_seen}
@@ -20,4 +20,21 @@ returns-in-Ok-read_digest c =
         files = stored ts n _ c.requires.room.0;
         others = drop-set-lt _ ts n _ (omega arith);
       };
+    }
+
+pub returns-in-Err : goal.returns-in-Err
+returns-in-Err c = record { value = inl (refl, sym c.in-Err.ensures.value, refl) }
+
+pub returns-in-Err-read_digest : goal.returns-in-Err-read_digest
+returns-in-Err-read_digest c =
+    record {
+      value = inr (
+        refl,
+        record {
+          opened = front_seen c.in-Ok.front;
+          opens = sym c.in-Ok.ensures.value;
+          breaks = sym c.in-Err-read_digest.ensures.value;
+          notes = c.note.ensures.noted;
+        },
+      );
     }
