@@ -11,7 +11,6 @@
 ghost use Rattle.std.specs.Prelude.{◌≡◌, true, IfOk};
 ghost use Rattle.std.specs.Option.{option_map};
 ghost use Rattle.std.specs.List.{AllByRecursion};
-ghost use Rattle.std.specs.Str.{bytes_eq};
 ghost use Rattle.pieces.specs.Marks.{lacking};
 ghost use Rattle.arguments.specs.Words.{words_of, spaced, take_word, ended};
 ghost use Rattle.arguments.specs.Arguments.{stripped, digits_of, path_of, octets_of, argument_of, oracle_of, is_list_of, kind_of, form_of, list_word_of, area_of, Lawful, LawfulSource, LawfulArea};
@@ -23,12 +22,19 @@ use pieces::Pieces;
 use points::{Asn, V4, V6};
 use std::fmt;
 
-// Why a line is no call.
+// Which calls a log may have: those on elements and oracles, or those on lists of resources too.
+#[derive(Clone, Copy, PartialEq, Eq, Debug)]
+pub enum Known {
+    Oracles,
+    Lists,
+}
+
+// Why a line is no call. Of an unknown call it says which are known.
 #[derive(Clone, Copy, PartialEq, Eq, Debug)]
 pub enum Why {
     CarriageReturn,
     EmptyWord,
-    UnknownCall,
+    UnknownCall(Known),
     MissingWord,
     ExtraWord,
     NoOctets,
@@ -50,7 +56,9 @@ impl Why {
             Why::CarriageReturn => "a carriage return: end each line with a newline alone",
             Why::EmptyWord =>
                 "a space too many: write one space between words, and none at either end",
-            Why::UnknownCall =>
+            Why::UnknownCall(Known::Oracles) =>
+                "an unknown call: the first word must name one, as element, digest or verdict",
+            Why::UnknownCall(Known::Lists) =>
                 "an unknown call: the first word must name one, as element, digest, verdict, join, write or read",
             Why::MissingWord => "a word is missing: write each argument of the call",
             Why::ExtraWord => "a word too many: write only the arguments of the call",
@@ -99,13 +107,11 @@ impl<'a> Words<'a> {
     pub fn next(&mut self) -> Result<&'a [u8], Why>
         ensures { beside (λ x. x.now) result (left self.new) ≡ take_word (left self.old) }
     {
-        let Some(word) = self.pieces.next() else {
-            return Err(Why::MissingWord);
-        };
-        if word.len() == 0 {
-            return Err(Why::EmptyWord);
+        match self.pieces.next() {
+            None => Err(Why::MissingWord),
+            Some([]) => Err(Why::EmptyWord),
+            Some(word) => Ok(word),
         }
-        Ok(word)
     }
 
     // The next word, as octets.
@@ -122,10 +128,10 @@ impl<'a> Words<'a> {
         ensures lawful { IfOk result (λ o. LawfulSource (sourced o)) }
     {
         let word = self.next()?;
-        if same(word, b"scheme") {
+        if word == b"scheme".as_slice() {
             return Ok(OracleWord::Scheme);
         }
-        if same(word, b"book") {
+        if word == b"book".as_slice() {
             return Ok(OracleWord::Book(self.octets()?));
         }
         Err(Why::NoOracle)
@@ -135,17 +141,12 @@ impl<'a> Words<'a> {
     pub fn kind(&mut self) -> Result<Kind, Why>
         ensures { beside (λ k. k) result (left self.new) ≡ kind_of (left self.old) }
     {
-        let word = self.next()?;
-        if same(word, b"v4") {
-            return Ok(Kind::V4);
+        match self.next()? {
+            b"v4" => Ok(Kind::V4),
+            b"v6" => Ok(Kind::V6),
+            b"as" => Ok(Kind::Asn),
+            _ => Err(Why::NoKind),
         }
-        if same(word, b"v6") {
-            return Ok(Kind::V6);
-        }
-        if same(word, b"as") {
-            return Ok(Kind::Asn);
-        }
-        Err(Why::NoKind)
     }
 
     // The next word, as the kind of a value that is read.
@@ -153,10 +154,10 @@ impl<'a> Words<'a> {
         ensures { beside (λ f. f) result (left self.new) ≡ form_of (left self.old) }
     {
         let word = self.next()?;
-        if same(word, b"addresses") {
+        if word == b"addresses".as_slice() {
             return Ok(Form::Addresses);
         }
-        if same(word, b"asn") {
+        if word == b"asn".as_slice() {
             return Ok(Form::Asn);
         }
         Err(Why::NoForm)
@@ -180,17 +181,13 @@ impl<'a> Words<'a> {
         ensures lawful { IfOk result (λ a. LawfulArea a) }
     {
         let mut pieces = self.pieces;
-        let Some(word) = pieces.next() else {
-            return Ok(None);
+        let word = match pieces.next() {
+            None => return Ok(None),
+            Some([]) => return Err(Why::EmptyWord),
+            Some(word) => word,
         };
         self.pieces = pieces;
-        if word.len() == 0 {
-            return Err(Why::EmptyWord);
-        }
-        match read_number(word, 18_446_744_073_709_551_615) {
-            Some(room) => Ok(Some(room)),
-            None => Err(Why::NoNumber),
-        }
+        Ok(Some(read_number(word, u64::MAX).ok_or(Why::NoNumber)?))
     }
 
     // That no word is left.
@@ -198,13 +195,11 @@ impl<'a> Words<'a> {
         ensures { result ≡ ended (left self.entry) }
     {
         let mut pieces = self.pieces;
-        let Some(word) = pieces.next() else {
-            return Ok(());
-        };
-        if word.len() == 0 {
-            return Err(Why::EmptyWord);
+        match pieces.next() {
+            None => Ok(()),
+            Some([]) => Err(Why::EmptyWord),
+            Some(_) => Err(Why::ExtraWord),
         }
-        Err(Why::ExtraWord)
     }
 }
 
@@ -292,11 +287,4 @@ fn is_of(kind: Kind, word: &[u8]) -> bool
         Kind::V6 => is_list::<V6>(word),
         Kind::Asn => is_list::<Asn>(word),
     }
-}
-
-// Whether two words are the same.
-fn same(a: &[u8], b: &[u8]) -> bool
-    ensures { result ≡ bytes_eq a.now b.now }
-{
-    a == b
 }

@@ -1,2 +1,2 @@
-pub mod Lines
+pub mod Lists
 pub mod Views

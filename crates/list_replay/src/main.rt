@@ -1,12 +1,10 @@
 // The program: the calls of a log whose lines may also join, write and read lists of resources.
 #![tactic(auto)]
 
-mod files;
-mod lines;
 mod replaying;
 
-use files::Failure;
 use replaying::run_replay;
+use running::files::Failure;
 use std::env;
 use std::process::ExitCode;
 

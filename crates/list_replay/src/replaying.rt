@@ -1,65 +1,29 @@
-// `zapuhoti replay`: the calls of a log, and the answer of each.
-use super::files::{Failure, first_line, flush, read_log};
-use super::lines::{Stop, find_octets, tell_line};
-use arguments::{Form, Kind, OracleWord, Why};
-use book::Book;
+// The calls of a log, on lists too, and the answer of each.
+use arguments::{Form, Kind, Why};
 use entry_writer::WrittenResource;
 use list_answers::{addresses_answer, asn_answer, join_answer, write_answer};
-use list_log::{Call, Line, read_line};
+use list_log::Call;
 use list_text::read_list;
-use oracle::{Claim, Scheme};
 use point_text::PointText;
 use points::{Asn, V4, V6};
 use ranges::{MOST, Range};
-use replay::{digest_answer, element_answer, verdict_answer};
+use running::calls::{answer, run_calls};
+use running::files::{Failure, read_log};
+use running::lines::{Stop, find_octets};
 use std::alloc::AllocError;
-
-// Asks an oracle for a digest.
-fn ask_digest(rt: &HostRuntime, oracle: OracleWord<'_>, octets: &[u8]) -> Result<String, Stop> {
-    match oracle {
-        OracleWord::Scheme => Ok(digest_answer(rt.alloc(), &Scheme, octets)?),
-        OracleWord::Book(word) => {
-            let book = find_octets(rt, word)?;
-            let oracle = Book {
-                octets: book.as_slice(),
-            };
-            Ok(digest_answer(rt.alloc(), &oracle, octets)?)
-        },
-    }
-}
-
-// Asks an oracle for a verdict.
-fn ask_verdict(rt: &HostRuntime, oracle: OracleWord<'_>, claim: Claim<'_>) -> Result<String, Stop> {
-    match oracle {
-        OracleWord::Scheme => Ok(verdict_answer(rt.alloc(), &Scheme, claim)?),
-        OracleWord::Book(word) => {
-            let book = find_octets(rt, word)?;
-            let oracle = Book {
-                octets: book.as_slice(),
-            };
-            Ok(verdict_answer(rt.alloc(), &oracle, claim)?)
-        },
-    }
-}
 
 // The list that a word of a log writes.
 fn find_list<P: PointText>(rt: &HostRuntime, word: &[u8]) -> Result<Vec<Range<P>>, Stop> {
-    match read_list::<P>(rt.alloc(), word)? {
-        Some(list) => Ok(list),
-        None => Err(Stop::Line(Why::NoList)),
-    }
+    read_list::<P>(rt.alloc(), word)?.ok_or(Stop::Line(Why::NoList))
 }
 
 // An area of as many ranges as a list may have.
 fn find_area<P: PointText>(rt: &HostRuntime) -> Result<Vec<Range<P>>, AllocError> {
-    let mut area = Vec::new(rt.alloc());
-    for _ in 0..MOST {
-        area.push(Range {
-            first: P::first(),
-            last: P::first(),
-        })?;
-    }
-    Ok(area)
+    let blank = Range {
+        first: P::first(),
+        last: P::first(),
+    };
+    Ok(vec![in rt.alloc(); blank; MOST]?)
 }
 
 // Joins two lists of a kind.
@@ -96,30 +60,7 @@ fn ask_read(rt: &HostRuntime, form: Form, octets: &[u8]) -> Result<String, Stop>
 // Makes a call and gives its answer, or says why it is none.
 fn run_call(rt: &HostRuntime, call: Call<'_>) -> Result<String, Stop> {
     match call {
-        Call::Element(word) => {
-            let octets = find_octets(rt, word)?;
-            Ok(element_answer(rt.alloc(), octets.as_slice())?)
-        },
-        Call::Digest { oracle, octets } => {
-            let octets = find_octets(rt, octets)?;
-            ask_digest(rt, oracle, octets.as_slice())
-        },
-        Call::Verdict {
-            oracle,
-            key,
-            message,
-            signature,
-        } => {
-            let key = find_octets(rt, key)?;
-            let message = find_octets(rt, message)?;
-            let signature = find_octets(rt, signature)?;
-            let claim = Claim {
-                key: key.as_slice(),
-                message: message.as_slice(),
-                signature: signature.as_slice(),
-            };
-            ask_verdict(rt, oracle, claim)
-        },
+        Call::Base(call) => answer(rt, call),
         Call::Join { kind, one, other } => match kind {
             Kind::V4 => ask_join::<V4>(rt, one, other),
             Kind::V6 => ask_join::<V6>(rt, one, other),
@@ -137,33 +78,8 @@ fn run_call(rt: &HostRuntime, call: Call<'_>) -> Result<String, Stop> {
     }
 }
 
-// Runs a line of a log, and appends its answer.
-fn run_line(rt: &HostRuntime, line: &[u8], text: &mut String) -> Result<(), Stop> {
-    match read_line(line)? {
-        Line::Nothing => Ok(()),
-        Line::Call(call) => {
-            let answer = run_call(rt, call)?;
-            text.push_str(answer.as_str())?;
-            Ok(())
-        },
-    }
-}
-
 // Runs the lines of a log in order, up to the first that is no call.
 pub fn run_replay(rt: &HostRuntime, path: &str) -> Result<(), Failure> {
     let log = read_log(rt, path)?;
-    let mut text = String::new(rt.alloc());
-    let mut number: usize = 0;
-    let mut rest = log.as_slice();
-    while !rest.is_empty() {
-        let (line, after) = first_line(rest);
-        rest = after;
-        number = number.wrapping_add(1);
-        if let Err(stop) = run_line(rt, line, &mut text) {
-            flush(rt, &mut text, true)?;
-            return Err(tell_line(rt, number, stop));
-        }
-        flush(rt, &mut text, false)?;
-    }
-    flush(rt, &mut text, true)
+    run_calls(rt, log.as_slice(), |call: Call<'_>| run_call(rt, call))
 }

@@ -1,3 +1,3 @@
-pub mod Words
-pub mod Lines
+pub mod Sets
+pub mod Oracles
 pub mod Views

@@ -1,7 +1,7 @@
 // `zapuhoti dump`: the elements of a file, a line each.
-use super::files::{Failure, flush, read_file};
 use dump::push_line;
 use fault::{Breach, ElementFault, Fault};
+use running::files::{Failure, flush, read_file};
 use walk::{Walk, WalkError};
 
 // Says how a walk ended before the end of its file.

@@ -1,9 +1,9 @@
 // `zapuhoti book`: a verdict book from a list of records.
-use super::files::{Failure, first_line, read_log};
-use super::lines::{Stop, find_octets, tell_line};
+use arguments::{Known, Why, Words};
 use book_writer::{write_digest, write_verdict};
-use log_lines::{Why, Words};
 use oracle::Claim;
+use running::files::{Failure, read_log};
+use running::lines::{Stop, find_octets, tell_line};
 use std::fs;
 
 // Appends the record of a line `digest OCTETS DIGEST`, from its arguments.
@@ -11,12 +11,10 @@ fn add_digest(rt: &HostRuntime, words: &mut Words<'_>, book: &mut Vec<u8>) -> Re
     let octets = find_octets(rt, words.octets()?)?;
     let digest = find_octets(rt, words.octets()?)?;
     words.end()?;
-    if digest.len() != 32 {
+    let Ok(digest) = digest.as_slice().try_into() else {
         return Err(Stop::NoDigest);
-    }
-    let mut whole = [0u8; 32];
-    whole.copy_from_slice(digest.as_slice());
-    write_digest(book, octets.as_slice(), &whole)?;
+    };
+    write_digest(book, octets.as_slice(), digest)?;
     Ok(())
 }
 
@@ -37,31 +35,24 @@ fn add_verdict(rt: &HostRuntime, words: &mut Words<'_>, book: &mut Vec<u8>) -> R
 
 // Appends the record that a line of a list says.
 fn add_record(rt: &HostRuntime, line: &[u8], book: &mut Vec<u8>) -> Result<(), Stop> {
-    if line.is_empty() || line[0] == b'#' {
+    if line.is_empty() || line.starts_with(b"#") {
         return Ok(());
     }
     let mut words = Words::of(line);
-    let kind = words.next()?;
-    if kind == b"digest".as_slice() {
-        return add_digest(rt, &mut words, book);
+    match words.next()? {
+        b"digest" => add_digest(rt, &mut words, book),
+        b"verdict" => add_verdict(rt, &mut words, book),
+        _ => Err(Stop::Line(Why::UnknownCall(Known::Oracles))),
     }
-    if kind == b"verdict".as_slice() {
-        return add_verdict(rt, &mut words, book);
-    }
-    Err(Stop::Line(Why::UnknownCall))
 }
 
 // The verdict book of a list of records, where every line of the list is one.
 fn make_book(rt: &HostRuntime, lines: &[u8]) -> Result<Vec<u8>, Failure> {
     let mut book = Vec::new(rt.alloc());
-    let mut number: usize = 0;
-    let mut rest = lines;
-    while !rest.is_empty() {
-        let (line, after) = first_line(rest);
-        rest = after;
-        number = number.wrapping_add(1);
+    for (number, line) in lines.split_inclusive(|c| *c == b'\n').enumerate() {
+        let line = line.strip_suffix(b"\n").unwrap_or(line);
         if let Err(stop) = add_record(rt, line, &mut book) {
-            return Err(tell_line(rt, number, stop));
+            return Err(tell_line(rt, number + 1, stop));
         }
     }
     Ok(book)

@@ -1,10 +1,10 @@
 // `zapuhoti judge`: the verdict on a route by a printed list of payloads.
-use super::files::{Failure, flush, read_log};
 use fault::Rule;
 use listing::put_line;
 use listing_reader::read;
 use payload::{Family, Payload, PayloadList, Prefix};
 use route_text::{Misspelt, read_origin, read_route};
+use running::files::{Failure, flush, read_log};
 use std::alloc::AllocError;
 use verdict::{Relation, Route, judge, relate};
 

@@ -2,17 +2,15 @@
 #![tactic(auto)]
 
 mod dumping;
-mod files;
 mod filling;
 mod judging;
-mod lines;
 mod replaying;
 
 use dumping::{Detail, run_dump};
-use files::Failure;
 use filling::run_book;
 use judging::run_judge;
 use replaying::run_replay;
+use running::files::Failure;
 use std::env;
 use std::process::ExitCode;
 
