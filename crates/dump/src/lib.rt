@@ -6,9 +6,7 @@
 // the text longer than a fixed number of times its own length. It rests on `walk` and `content`.
 #![tactic(auto)]
 
-ghost use Rattle.std.specs.Prelude.{◌≡◌, ◌≤◌, string_bytes};
-
-use content::{BitString, Integer, Kind, read_bit_string, read_boolean, read_integer};
+use content::{BitString, Integer, Kind, read_bit_string, read_boolean, read_integer, read_oid};
 use hex_text::push_octets;
 use moment::{Moment, generalized_time, utc_time};
 use std::alloc::{AllocError, Global};
@@ -19,6 +17,33 @@ pub const SHOWN: usize = 128;
 
 // How many levels are indented; deeper ones are counted.
 pub const DEEPEST: usize = 32;
+
+// How much of a long value is shown.
+#[derive(Clone, Copy, PartialEq, Eq)]
+pub enum Values {
+    Cut,
+    Whole,
+}
+
+// What the line of an element shows: its offset, how many elements stand around it, its tag and its content.
+#[derive(Clone, Copy)]
+pub struct Line<'a> {
+    pub place: usize,
+    pub depth: usize,
+    pub tag: u8,
+    pub octets: &'a [u8],
+}
+
+impl<'a> From<&Node<'a>> for Line<'a> {
+    fn from(node: &Node<'a>) -> Line<'a> {
+        Line {
+            place: node.element.place,
+            depth: node.depth,
+            tag: node.element.tag,
+            octets: node.element.content.octets,
+        }
+    }
+}
 
 // The name of a tag that has one.
 fn tag_name(tag: u8) -> Option<&'static str> {
@@ -41,134 +66,42 @@ fn tag_name(tag: u8) -> Option<&'static str> {
     }
 }
 
-// Appends two spaces for each level, and past the deepest that is indented the level itself.
-fn push_indent(heap: Global, text: &mut String, depth: usize) -> Result<(), AllocError> {
-    for _ in 0..depth.min(DEEPEST) {
-        text.push_str("  ")?;
-    }
-    if depth > DEEPEST {
-        let level = format!(in heap; "<level {depth}> ")?;
-        text.push_str(level.as_str())?;
-    }
-    Ok(())
-}
-
-// Appends the name of a tag: that of a universal one, `[N]` for the context's own, or the octet itself.
-fn push_tag(heap: Global, text: &mut String, tag: u8) -> Result<(), AllocError> {
-    if let Some(name) = tag_name(tag) {
-        return text.push_str(name);
-    }
-    if tag >= 0x80 && tag < 0xc0 {
-        let number = tag % 32;
-        let name = format!(in heap; "[{number}]")?;
-        return text.push_str(name.as_str());
-    }
-    let name = format!(in heap; "tag {tag:02x}")?;
-    text.push_str(name.as_str())
-}
-
-// Appends octets in hexadecimal, and where they are cut how many there are.
-fn push_hex(heap: Global, text: &mut String, octets: &[u8], all: bool) -> Result<(), AllocError> {
-    if all || octets.len() <= SHOWN {
-        return push_octets(text, octets);
-    }
-    push_octets(text, &octets[0..SHOWN])?;
-    let count = octets.len();
-    let note = format!(in heap; ".. ({count} octets)")?;
-    text.push_str(note.as_str())
-}
-
-// The number that few octets write, with each octet as it is or, for a number below zero, inverted.
-fn magnitude(octets: &[u8], negative: bool) -> u64 {
-    let mut value: u64 = 0;
-    for octet in octets {
-        let digit = if negative { 255 - *octet } else { *octet };
-        value = value.wrapping_mul(256).wrapping_add(u64::from(digit));
-    }
+// The number that the octets of an INTEGER of at most 64 bits write.
+fn number_of(value: &Integer<'_>) -> i128 {
+    let sign = if value.negative { -1 } else { 0 };
     value
-}
-
-// Appends an INTEGER: in decimal up to eight octets, and a longer one in hexadecimal.
-fn push_integer(
-    heap: Global,
-    text: &mut String,
-    value: &Integer<'_>,
-    all: bool,
-) -> Result<(), AllocError> {
-    if value.octets.len() > 8 {
-        text.push_str(if value.negative {
-            "(negative) 0x"
-        } else {
-            "0x"
-        })?;
-        return push_hex(heap, text, value.octets, all);
-    }
-    let size = magnitude(value.octets, value.negative);
-    let number = if value.negative {
-        let below = size.wrapping_add(1);
-        format!(in heap; "-{below}")?
-    } else {
-        format!(in heap; "{size}")?
-    };
-    text.push_str(number.as_str())
-}
-
-// Appends a BIT STRING: its octets, and how many bits they hold.
-fn push_bits(
-    heap: Global,
-    text: &mut String,
-    value: &BitString<'_>,
-    all: bool,
-) -> Result<(), AllocError> {
-    push_hex(heap, text, value.octets, all)?;
-    let bits = value
         .octets
-        .len()
-        .wrapping_mul(8)
-        .wrapping_sub(value.unused as usize);
-    let note = format!(in heap; " ({bits} bits)")?;
-    text.push_str(note.as_str())
+        .iter()
+        .fold(sign, |number, octet| (number << 8) | i128::from(*octet))
 }
 
-// The numbers of an OBJECT IDENTIFIER as its octets write them, or none where one is past 128 bits.
-fn arcs(heap: Global, octets: &[u8]) -> Result<Option<Vec<u128>>, AllocError> {
-    let mut numbers = Vec::new(heap);
-    let mut value: u128 = 0;
-    for octet in octets {
-        if value > u128::MAX / 128 {
-            return Ok(None);
-        }
-        value = value
-            .wrapping_mul(128)
-            .wrapping_add(u128::from(*octet % 128));
-        if *octet < 128 {
-            numbers.push(value)?;
-            value = 0;
-        }
-    }
-    Ok(Some(numbers))
+// One number of an OBJECT IDENTIFIER, or none where it is past 128 bits.
+fn arc(octets: &[u8]) -> Option<u128> {
+    octets.iter().try_fold(
+        0u128,
+        |number, octet| Some(number.checked_mul(128)? | u128::from(octet % 128)),
+    )
 }
 
 // The first number of the octets is forty times the first of the identifier, which is at most 2, and the second.
-fn first_two(heap: Global, number: u128) -> Result<String, AllocError> {
+fn first_two(number: u128) -> (u128, u128) {
     let first = (number / 40).min(2);
-    let second = number.wrapping_sub(first.wrapping_mul(40));
-    format!(in heap; "{first}.{second}")
+    (first, number - first * 40)
 }
 
 // An OBJECT IDENTIFIER in dotted form, or none where a number in it is past 128 bits.
 fn dotted(heap: Global, octets: &[u8]) -> Result<Option<String>, AllocError> {
-    let Some(numbers) = arcs(heap, octets)? else {
-        return Ok(None);
-    };
     let mut text = String::new(heap);
-    for (i, number) in numbers.iter().enumerate() {
-        let part = if i == 0 {
-            first_two(heap, *number)?
-        } else {
-            format!(in heap; ".{number}")?
+    for part in octets.split_inclusive(|octet| *octet < 128) {
+        let Some(number) = arc(part) else {
+            return Ok(None);
         };
-        text.push_str(part.as_str())?;
+        if text.is_empty() {
+            let (first, second) = first_two(number);
+            write!(text, "{first}.{second}")?;
+        } else {
+            write!(text, ".{number}")?;
+        }
     }
     Ok(Some(text))
 }
@@ -207,167 +140,211 @@ const NAMES: [(&str, &str); 28] = [
 
 // The name of an identifier in dotted form, where it has one.
 fn oid_name(dotted: &str) -> Option<&'static str> {
-    for (form, name) in NAMES.iter() {
-        if *form == dotted {
-            return Some(*name);
-        }
-    }
-    None
+    NAMES
+        .iter()
+        .find(|entry| entry.0 == dotted)
+        .map(|entry| entry.1)
 }
 
-// Appends an OBJECT IDENTIFIER: in dotted form with its name, or in hexadecimal where a number is too long.
-fn push_oid(heap: Global, text: &mut String, octets: &[u8], all: bool) -> Result<(), AllocError> {
-    let Some(form) = dotted(heap, octets)? else {
-        text.push_str("0x")?;
-        return push_hex(heap, text, octets, all);
-    };
-    if !all && form.len() > 2 * SHOWN {
-        text.push_str("0x")?;
-        return push_hex(heap, text, octets, all);
-    }
-    text.push_str(form.as_str())?;
-    if let Some(name) = oid_name(form.as_str()) {
-        text.push_str(" (")?;
-        text.push_str(name)?;
-        text.push_str(")")?;
-    }
-    Ok(())
-}
-
-// Appends a text in quotes, with every octet that is no printable ASCII as a backslash and two digits.
-fn push_text(heap: Global, text: &mut String, octets: &[u8], all: bool) -> Result<(), AllocError> {
-    text.push('"')?;
-    let shown = if all {
-        octets.len()
-    } else {
-        octets.len().min(SHOWN)
-    };
-    for octet in &octets[0..shown] {
-        if *octet >= 0x20 && *octet < 0x7f && *octet != b'"' && *octet != b'\\' {
-            text.push(*octet as char)?;
-        } else {
-            text.push('\\')?;
-            push_octets(text, &[*octet])?;
-        }
-    }
-    text.push('"')?;
-    if shown < octets.len() {
-        let count = octets.len();
-        let note = format!(in heap; ".. ({count} octets)")?;
-        text.push_str(note.as_str())?;
-    }
-    Ok(())
-}
-
-// Appends a moment as a date and a time.
-fn push_moment(heap: Global, text: &mut String, moment: Moment) -> Result<(), AllocError> {
-    let number = moment.number();
-    let year = number / 10_000_000_000;
-    let month = number / 100_000_000 % 100;
-    let day = number / 1_000_000 % 100;
-    let hour = number / 10_000 % 100;
-    let minute = number / 100 % 100;
-    let second = number % 100;
-    let date = format!(in heap; "{year:04}-{month:02}-{day:02} ")?;
-    text.push_str(date.as_str())?;
-    let time = format!(in heap; "{hour:02}:{minute:02}:{second:02} UTC")?;
-    text.push_str(time.as_str())
+// Whether an octet is a printable ASCII character.
+fn is_printable(octet: u8) -> bool {
+    matches!(octet, b' '..=b'~')
 }
 
 // Whether octets are printable ASCII throughout, at least one.
-fn is_printable(octets: &[u8]) -> bool {
-    for octet in octets {
-        if *octet < 0x20 || *octet >= 0x7f {
-            return false;
+fn is_text(octets: &[u8]) -> bool {
+    !octets.is_empty() && octets.iter().all(|octet| is_printable(*octet))
+}
+
+// A text to append to, and how much of each value it shows.
+#[derive(Drop)]
+struct Printer<'t> {
+    text: &'t mut String,
+    values: Values,
+}
+
+impl Printer<'_> {
+    // Those of some octets that are shown.
+    fn shown<'o>(&self, octets: &'o [u8]) -> &'o [u8] {
+        match self.values {
+            Values::Cut => &octets[..octets.len().min(SHOWN)],
+            Values::Whole => octets,
         }
     }
-    !octets.is_empty()
-}
 
-// Appends the octets of a tag without a typed value: in hexadecimal, and as text too where they are such.
-fn push_other(
-    heap: Global,
-    text: &mut String,
-    tag: u8,
-    octets: &[u8],
-    all: bool,
-) -> Result<(), AllocError> {
-    if tag == 0x0c || tag == 0x13 {
-        return push_text(heap, text, octets, all);
+    // Appends how many octets there are where they are cut.
+    fn push_count(&mut self, octets: &[u8]) -> Result<(), AllocError> {
+        let count = octets.len();
+        if self.shown(octets).len() < count {
+            write!(self.text, ".. ({count} octets)")?;
+        }
+        Ok(())
     }
-    push_hex(heap, text, octets, all)?;
-    if tag >= 0x80 && is_printable(octets) {
-        text.push(' ')?;
-        push_text(heap, text, octets, all)?;
-    }
-    Ok(())
-}
 
-// Appends the value of a content. The octets have the form of their tag; where a typed value has none, they
-// are shown as they stand.
-fn push_value(
-    heap: Global,
-    text: &mut String,
-    tag: u8,
-    octets: &[u8],
-    all: bool,
-) -> Result<(), AllocError> {
-    match Kind::from(tag) {
-        Kind::Boolean => match read_boolean(octets) {
-            Some(true) => text.push_str("TRUE"),
-            Some(false) => text.push_str("FALSE"),
-            None => push_hex(heap, text, octets, all),
-        },
-        Kind::Integer => match read_integer(octets) {
-            Some(value) => push_integer(heap, text, &value, all),
-            None => push_hex(heap, text, octets, all),
-        },
-        Kind::BitString => match read_bit_string(octets) {
-            Some(value) => push_bits(heap, text, &value, all),
-            None => push_hex(heap, text, octets, all),
-        },
-        Kind::Oid => push_oid(heap, text, octets, all),
-        Kind::Ia5String => push_text(heap, text, octets, all),
-        Kind::UtcTime => push_time(heap, text, utc_time(octets), octets),
-        Kind::GeneralizedTime => push_time(heap, text, generalized_time(octets), octets),
-        _ => push_other(heap, text, tag, octets, all),
+    // Appends two spaces for each level, and past the deepest that is indented the level itself.
+    fn push_indent(&mut self, depth: usize) -> Result<(), AllocError> {
+        for _ in 0..depth.min(DEEPEST) {
+            self.text.push_str("  ")?;
+        }
+        if depth > DEEPEST {
+            write!(self.text, "<level {depth}> ")?;
+        }
+        Ok(())
     }
-}
 
-// Appends the moment that a time says.
-fn push_time(
-    heap: Global,
-    text: &mut String,
-    time: Option<Moment>,
-    octets: &[u8],
-) -> Result<(), AllocError> {
-    match time {
-        Some(moment) => push_moment(heap, text, moment),
-        None => push_hex(heap, text, octets, false),
+    // Appends the name of a tag: that of a universal one, `[N]` for the context's own, or the octet itself.
+    fn push_tag(&mut self, tag: u8) -> Result<(), AllocError> {
+        if let Some(name) = tag_name(tag) {
+            return self.text.push_str(name);
+        }
+        if tag >= 0x80 && tag < 0xc0 {
+            return write!(self.text, "[{}]", tag % 32);
+        }
+        write!(self.text, "tag {tag:02x}")
+    }
+
+    // Appends octets in hexadecimal, and where they are cut how many there are.
+    fn push_hex(&mut self, octets: &[u8]) -> Result<(), AllocError> {
+        let shown = self.shown(octets);
+        push_octets(self.text, shown)?;
+        self.push_count(octets)
+    }
+
+    // Appends an INTEGER: in decimal up to eight octets, and a longer one in hexadecimal.
+    fn push_integer(&mut self, value: &Integer<'_>) -> Result<(), AllocError> {
+        if value.octets.len() <= 8 {
+            return write!(self.text, "{}", number_of(value));
+        }
+        self.text.push_str(if value.negative {
+            "(negative) 0x"
+        } else {
+            "0x"
+        })?;
+        self.push_hex(value.octets)
+    }
+
+    // Appends a BIT STRING: its octets, and how many bits they hold.
+    fn push_bits(&mut self, value: &BitString<'_>) -> Result<(), AllocError> {
+        self.push_hex(value.octets)?;
+        let bits = value
+            .octets
+            .len()
+            .wrapping_mul(8)
+            .wrapping_sub(value.unused as usize);
+        write!(self.text, " ({bits} bits)")
+    }
+
+    // Appends an OBJECT IDENTIFIER: in dotted form with its name, or in hexadecimal where a number or the whole is too long.
+    fn push_oid(&mut self, octets: &[u8]) -> Result<(), AllocError> {
+        let heap = *self.text.allocator();
+        let form = match dotted(heap, octets)? {
+            Some(form) if self.values == Values::Whole || form.len() <= 2 * SHOWN => form,
+            _ => {
+                self.text.push_str("0x")?;
+                return self.push_hex(octets);
+            },
+        };
+        self.text.push_str(form.as_str())?;
+        match oid_name(form.as_str()) {
+            Some(name) => write!(self.text, " ({name})"),
+            None => Ok(()),
+        }
+    }
+
+    // Appends a text in quotes, with every octet that is no printable ASCII as a backslash and two digits.
+    fn push_text(&mut self, octets: &[u8]) -> Result<(), AllocError> {
+        self.text.push('"')?;
+        for octet in self.shown(octets) {
+            if is_printable(*octet) && *octet != b'"' && *octet != b'\\' {
+                self.text.push(*octet as char)?;
+            } else {
+                write!(self.text, "\\{octet:02x}")?;
+            }
+        }
+        self.text.push('"')?;
+        self.push_count(octets)
+    }
+
+    // Appends a moment as a date and a time.
+    fn push_moment(&mut self, moment: Moment) -> Result<(), AllocError> {
+        let date = moment.number() / 1_000_000;
+        let time = moment.number() % 1_000_000;
+        let (year, month, day) = (date / 10_000, date / 100 % 100, date % 100);
+        let (hour, minute, second) = (time / 10_000, time / 100 % 100, time % 100);
+        write!(
+            self.text,
+            "{year:04}-{month:02}-{day:02} {hour:02}:{minute:02}:{second:02} UTC"
+        )
+    }
+
+    // Appends the octets of a tag without a typed value: in hexadecimal, and as text too where they are such.
+    fn push_other(&mut self, tag: u8, octets: &[u8]) -> Result<(), AllocError> {
+        if tag == 0x0c || tag == 0x13 {
+            return self.push_text(octets);
+        }
+        self.push_hex(octets)?;
+        if tag >= 0x80 && is_text(octets) {
+            self.text.push(' ')?;
+            self.push_text(octets)?;
+        }
+        Ok(())
+    }
+
+    // Appends a time as the moment that it says, or its octets where it says none.
+    fn push_time(&mut self, time: Option<Moment>, octets: &[u8]) -> Result<(), AllocError> {
+        match time {
+            Some(moment) => self.push_moment(moment),
+            None => self.push_hex(octets),
+        }
+    }
+
+    // Appends the value of a content. The octets have the form of their tag; where a typed value has none, they
+    // are shown as they stand.
+    fn push_value(&mut self, tag: u8, octets: &[u8]) -> Result<(), AllocError> {
+        match Kind::from(tag) {
+            Kind::Boolean => match read_boolean(octets) {
+                Some(true) => self.text.push_str("TRUE"),
+                Some(false) => self.text.push_str("FALSE"),
+                None => self.push_hex(octets),
+            },
+            Kind::Integer => match read_integer(octets) {
+                Some(value) => self.push_integer(&value),
+                None => self.push_hex(octets),
+            },
+            Kind::BitString => match read_bit_string(octets) {
+                Some(value) => self.push_bits(&value),
+                None => self.push_hex(octets),
+            },
+            Kind::Oid => match read_oid(octets) {
+                Some(_) => self.push_oid(octets),
+                None => self.push_hex(octets),
+            },
+            Kind::Ia5String => self.push_text(octets),
+            Kind::UtcTime => self.push_time(utc_time(octets), octets),
+            Kind::GeneralizedTime => self.push_time(generalized_time(octets), octets),
+            _ => self.push_other(tag, octets),
+        }
+    }
+
+    // Appends the line of an element, with its newline.
+    fn push_line(&mut self, line: Line<'_>) -> Result<(), AllocError> {
+        let place = line.place;
+        write!(self.text, "{place:>7}  ")?;
+        self.push_indent(line.depth)?;
+        self.push_tag(line.tag)?;
+        let size = line.octets.len();
+        write!(self.text, " ({size})")?;
+        if !is_constructed(line.tag) && !line.octets.is_empty() {
+            self.text.push(' ')?;
+            self.push_value(line.tag, line.octets)?;
+        }
+        self.text.push('\n')
     }
 }
 
 // Appends the line of an element, with its newline: offset, indentation, the tag's name, the length and the
-// value. With `all` no value is cut.
-pub fn push_line(
-    heap: Global,
-    text: &mut String,
-    node: &Node<'_>,
-    all: bool,
-) -> Result<(), AllocError> {
-    let place = node.element.place;
-    let offset = format!(in heap; "{place:>7}  ")?;
-    text.push_str(offset.as_str())?;
-    push_indent(heap, text, node.depth)?;
-    let tag = node.element.tag;
-    push_tag(heap, text, tag)?;
-    let octets = node.element.content.octets;
-    let size = octets.len();
-    let length = format!(in heap; " ({size})")?;
-    text.push_str(length.as_str())?;
-    if !is_constructed(tag) && !octets.is_empty() {
-        text.push(' ')?;
-        push_value(heap, text, tag, octets, all)?;
-    }
-    text.push('\n')
+// value.
+pub fn push_line(text: &mut String, line: Line<'_>, values: Values) -> Result<(), AllocError> {
+    let mut printer = Printer { text, values };
+    printer.push_line(line)
 }

@@ -1,5 +1,5 @@
 // `zapuhoti dump`: the elements of a file, a line each.
-use dump::push_line;
+use dump::{Line, Values, push_line};
 use fault::{Breach, ElementFault, Fault};
 use running::files::{Failure, flush, read_file};
 use walk::{Walk, WalkError};
@@ -21,11 +21,10 @@ fn tell_stop(rt: &HostRuntime, error: WalkError) -> Failure {
     }
 }
 
-// How much of a dump is printed.
-#[derive(Clone, Copy, PartialEq, Eq)]
+// What a dump prints: a line for each element, or only how many there are.
+#[derive(Clone, Copy)]
 pub enum Detail {
-    Cut,
-    All,
+    Lines(Values),
     Count,
 }
 
@@ -36,10 +35,8 @@ fn walk_file(
     detail: Detail,
     text: &mut String,
 ) -> Result<usize, Failure> {
-    let heap = rt.alloc();
-    let mut walk = Walk::new(heap, file);
-    let mut count: usize = 0;
-    for _ in 0..file.len() {
+    let mut walk = Walk::new(rt.alloc(), file);
+    for count in 0..file.len() {
         let node = match walk.step() {
             Ok(Some(node)) => node,
             Ok(None) => return Ok(count),
@@ -48,13 +45,12 @@ fn walk_file(
                 return Err(tell_stop(rt, error));
             },
         };
-        count = count.wrapping_add(1);
-        if detail != Detail::Count {
-            push_line(heap, text, &node, detail == Detail::All)?;
+        if let Detail::Lines(values) = detail {
+            push_line(text, Line::from(&node), values)?;
             flush(rt, text, false)?;
         }
     }
-    Ok(count)
+    Ok(file.len())
 }
 
 pub fn run_dump(rt: &HostRuntime, path: &str, detail: Detail) -> Result<(), Failure> {
@@ -69,7 +65,7 @@ pub fn run_dump(rt: &HostRuntime, path: &str, detail: Detail) -> Result<(), Fail
     let mut text = String::new(rt.alloc());
     let count = walk_file(rt, file.as_slice(), detail, &mut text)?;
     flush(rt, &mut text, true)?;
-    if detail == Detail::Count {
+    if let Detail::Count = detail {
         println!(rt; "{count} elements")?;
     }
     Ok(())

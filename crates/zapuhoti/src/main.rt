@@ -6,6 +6,7 @@ mod filling;
 mod judging;
 mod replaying;
 
+use dump::Values;
 use dumping::{Detail, run_dump};
 use filling::run_book;
 use judging::run_judge;
@@ -40,43 +41,24 @@ fn misused(rt: &HostRuntime, what: &str) -> Result<(), Failure> {
     Err(Failure::Told)
 }
 
-fn run_words(rt: &HostRuntime, words: &[String]) -> Result<(), Failure> {
+// Runs the command that the words say.
+fn run_words(rt: &HostRuntime, words: &[&str]) -> Result<(), Failure> {
     match words {
         [] => misused(rt, "a command is missing"),
-        [word] if word.as_str() == "--help" || word.as_str() == "-h" => {
-            print!(rt; "{USAGE}")?;
-            Ok(())
-        },
-        [word, path] if word.as_str() == "dump" => run_dump(rt, path.as_str(), Detail::Cut),
-        [word, how, path] if word.as_str() == "dump" && how.as_str() == "--all" => run_dump(
-            rt,
-            path.as_str(),
-            Detail::All,
-        ),
-        [word, how, path] if word.as_str() == "dump" && how.as_str() == "--quiet" => run_dump(
-            rt,
-            path.as_str(),
-            Detail::Count,
-        ),
-        [word, path] if word.as_str() == "replay" => run_replay(rt, path.as_str()),
-        [word, list, out] if word.as_str() == "book" => run_book(rt, list.as_str(), out.as_str()),
-        [word, list, route, origin] if word.as_str() == "judge" => run_judge(
-            rt,
-            list.as_str(),
-            route.as_str(),
-            origin.as_str(),
-        ),
+        ["--help" | "-h"] => Ok(print!(rt; "{USAGE}")?),
+        ["dump", path] => run_dump(rt, path, Detail::Lines(Values::Cut)),
+        ["dump", "--all", path] => run_dump(rt, path, Detail::Lines(Values::Whole)),
+        ["dump", "--quiet", path] => run_dump(rt, path, Detail::Count),
+        ["replay", log] => run_replay(rt, log),
+        ["book", list, out] => run_book(rt, list, out),
+        ["judge", list, route, origin] => run_judge(rt, list, route, origin),
         _ => misused(rt, "these words are no command"),
     }
 }
 
 fn run(rt: &HostRuntime) -> Result<(), Failure> {
-    let mut words = Vec::new(rt.alloc());
-    for (i, word) in env::args(rt)?.enumerate() {
-        if i > 0 {
-            words.push(word)?;
-        }
-    }
+    let args: Vec<String> = env::args(rt)?.skip(1).collect(rt.alloc())?;
+    let words: Vec<&str> = args.iter().map(|word| word.as_str()).collect(rt.alloc())?;
     run_words(rt, words.as_slice())
 }
 
