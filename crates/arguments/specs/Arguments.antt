@@ -3,7 +3,7 @@ use Rattle.std.specs.Prelude.{◌≡◌, ℕ, ◌%◌, ◌<◌, ◌≤◌, Bool,
 use Rattle.std.specs.Str.{bytes_eq}
 use Rattle.hex_text.specs.Digits.{unhex, all_digits}
 use Rattle.numeral.specs.Numbers.{number_of}
-use Rattle.point_text.specs.Texts.{v4_of, v6_of, asn_of}
+use Rattle.point_words.specs.Texts.{v4_of, v6_of, asn_of}
 use Rattle.list_text.specs.Lists.{list_of}
 use Rattle.arguments.specs.declared.Why.{Why}
 use Rattle.arguments.specs.declared.Why.TheVariants.{EmptyWord, NoOctets, NoOracle, NoKind, NoForm, NoList, NoNumber, OddDigits, NoDigit, EmptyPath}

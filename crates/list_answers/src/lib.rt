@@ -37,7 +37,7 @@ fn joined_line<P: PointText>(heap: Global, list: &[Range<P>]) -> Result<String, 
     ensures { IfOk result (λ s. string_bytes s ≡ joined_line P.text list.now) }
 {
     let mut line = String::from_str(heap, "join ok ")?;
-    push_list(heap, &mut line, list)?;
+    push_list(&mut line, list)?;
     line.push_str("\n")?;
     Ok(line)
 }

@@ -1,8 +1,8 @@
 -- The steps of the loops over the words of a list. Assumes nothing.
-use Rattle.std.proofs.Common.{◌≡◌, ℕ, ◌+◌, ◌-◌, ◌<◌, ◌≤◌, Bool, true, false, cond, List, [], ◌∷◌, ◌++◌, length, get_or, take, drop, is_some, Some, None, codes, Option, sym, refl, ap, ◌∙◌, subst, append_assoc, arith}
+use Rattle.std.proofs.Common.{◌≡◌, ℕ, ◌+◌, ◌<◌, ◌≤◌, Bool, true, false, cond, List, [], ◌∷◌, ◌++◌, length, get_or, take, drop, is_some, Some, None, codes, Option, sym, refl, ap, ◌∙◌, subst, append_assoc, arith}
 use Rattle.std.specs.List.{AllByRecursion}
 use Rattle.std.specs.Str.{bytes_eq}
-use Rattle.std.proofs.lemmas.List.{append-nil, drop_more, drop_all, take_more, take_all, take_rest}
+use Rattle.std.proofs.lemmas.List.{append-nil, drop_more, drop_all, take_more, take_all}
 use Rattle.std.proofs.ByRecursion.{All-push}
 use Rattle.pieces.specs.Marks.{take_piece, pieces_of}
 use Rattle.ranges.specs.declared.Range.{Range}
@@ -97,9 +97,3 @@ module _ {P : Type 0} (proper : P → Type 0) where
 
   pub fit_all : (rs : List (Range P)) (i : ℕ) → length rs ≤ i → Fit proper (take i rs) → Fit proper rs
   fit_all rs i l f = subst (λ (ys : List (Range P)). Fit proper ys) (take_all i rs l) f
-
--- a list is its first range and the others
-pub first_rest : {P : Type 0} (rs : List (Range P)) (d : Range P) → 0 < length rs → d ≡ get_or rs 0 d → d ∷ take (length rs - 1) (drop 1 rs) ≡ rs
-first_rest [] d l e = absurd (omega arith)
-first_rest {P} (r ∷ rs) d l e =
-    ap (λ (x : Range P). x ∷ take (length (r ∷ rs) - 1) rs) e ∙ ap (λ (ys : List (Range P)). r ∷ ys) (take_rest (r ∷ rs) 1)

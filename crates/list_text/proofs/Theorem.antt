@@ -7,7 +7,7 @@ use Rattle.std.proofs.lemmas.List.{append-nil}
 use Rattle.std.proofs.lemmas.Bool.{cases_Bool}
 use Rattle.pieces.specs.Marks.{pieces_of, joined, lacking, and_then, read_next, at_end}
 use Rattle.pieces.proofs.Splits.{joined_pieces, pieces_joined, pieces_first}
-use Rattle.point_text.specs.Parts.{none_some, then_inv, end_inv, lacking_parts}
+use Rattle.point_words.proofs.Parts.{none_some, then_inv, end_inv, lacking_parts}
 use Rattle.ranges.specs.declared.Range.{Range}
 use Rattle.ranges.specs.Sets.{Fit}
 use Rattle.list_text.specs.Lists.{consed, ends_of, range_of, all_ranges, list_of, range_text, tail_text, list_text, RangeWord, RangeWords, ListWord, ReadsList}

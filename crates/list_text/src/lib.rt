@@ -23,9 +23,7 @@ use std::alloc::{AllocError, Global};
 fn next_point<P: PointText>(ends: &mut Pieces<'_>) -> Option<P>
     ensures { beside (λ x. x) result (left ends.new) ≡ read_next P.reads (left ends.old) }
 {
-    let Some(end) = ends.next() else {
-        return None;
-    };
+    let end = ends.next()?;
     P::read_point(end)
 }
 
@@ -39,21 +37,13 @@ fn read_range<P: PointText>(word: &[u8]) -> Option<Range<P>>
     at_end(&mut ends, Range { first, last })
 }
 
-// Whether a word is `none`.
-fn is_none(word: &[u8]) -> bool
-    ensures { result ≡ bytes_eq word.now (codes "none") }
-{
-    word == b"none".as_slice()
-}
-
 // Whether each of the words that are left is a range.
 fn are_ranges<P: PointText>(words: &mut Pieces<'_>) -> bool
     ensures { result ≡ is_some (all_ranges P.reads (left words.old)) }
 {
     while let Some(word) = words.next() {
-        match read_range::<P>(word) {
-            Some(_) => {},
-            None => return false,
+        if read_range::<P>(word).is_none() {
+            return false;
         }
     }
     true
@@ -63,7 +53,7 @@ fn are_ranges<P: PointText>(words: &mut Pieces<'_>) -> bool
 pub fn is_list<P: PointText>(word: &[u8]) -> bool
     ensures { result ≡ is_some (list_of P.reads word.now) }
 {
-    if is_none(word) {
+    if word == b"none".as_slice() {
         return true;
     }
     are_ranges::<P>(&mut Pieces::of(word, b','))
@@ -78,10 +68,10 @@ fn read_ranges<P: PointText>(
 {
     let mut list = Vec::new(heap);
     while let Some(word) = words.next() {
-        match read_range::<P>(word) {
-            Some(range) => list.push(range)?,
-            None => return Ok(None),
-        }
+        let Some(range) = read_range::<P>(word) else {
+            return Ok(None);
+        };
+        list.push(range)?;
     }
     Ok(Some(list))
 }
@@ -94,59 +84,37 @@ pub fn read_list<P: PointText>(
     ensures value { IfOk result (λ o. option_map vec_items o ≡ list_of P.reads word.now) }
     ensures text { IfOk result (λ o. ReadsList P.text P.folded P.proper word.now (option_map vec_items o)) }
 {
-    if is_none(word) {
+    if word == b"none".as_slice() {
         return Ok(Some(Vec::new(heap)));
     }
     read_ranges::<P>(heap, &mut Pieces::of(word, b','))
 }
 
 // Appends the text of a range.
-fn push_range<P: PointText>(
-    heap: Global,
-    out: &mut String,
-    range: Range<P>,
-) -> Result<(), AllocError>
+fn push_range<P: PointText>(out: &mut String, range: Range<P>) -> Result<(), AllocError>
     ensures value { OnOk result (string_bytes out.new ≡ string_bytes out.old ++ range_text P.text range) }
     ensures proper { OnOk result (P.proper range.first × P.proper range.last) }
 {
-    range.first.push_point(heap, out)?;
+    range.first.push_point(out)?;
     out.push_str("-")?;
-    range.last.push_point(heap, out)?;
-    Ok(())
-}
-
-// Appends a comma and the text of a range.
-fn push_further<P: PointText>(
-    heap: Global,
-    out: &mut String,
-    range: Range<P>,
-) -> Result<(), AllocError>
-    ensures value { OnOk result (string_bytes out.new ≡ string_bytes out.old ++ (44 ∷ range_text P.text range)) }
-    ensures proper { OnOk result (P.proper range.first × P.proper range.last) }
-{
-    out.push_str(",")?;
-    push_range(heap, out, range)?;
+    range.last.push_point(out)?;
     Ok(())
 }
 
 // Appends the text of further ranges, each after a comma.
-fn push_tail<P: PointText>(
-    heap: Global,
-    out: &mut String,
-    list: &[Range<P>],
-) -> Result<(), AllocError>
+fn push_tail<P: PointText>(out: &mut String, list: &[Range<P>]) -> Result<(), AllocError>
     ensures value { OnOk result (string_bytes out.new ≡ string_bytes out.old ++ tail_text P.text list.now) }
     ensures proper { OnOk result (Fit P.proper list.now) }
 {
     for range in list {
-        push_further(heap, out, *range)?;
+        out.push_str(",")?;
+        push_range(out, *range)?;
     }
     Ok(())
 }
 
 // Appends the text of a list that begins with a range.
 fn push_ranges<P: PointText>(
-    heap: Global,
     out: &mut String,
     first: Range<P>,
     rest: &[Range<P>],
@@ -154,24 +122,18 @@ fn push_ranges<P: PointText>(
     ensures value { OnOk result (string_bytes out.new ≡ string_bytes out.old ++ list_text P.text (first ∷ rest.now)) }
     ensures back { OnOk result (list_of P.reads (list_text P.text (first ∷ rest.now)) ≡ Some (first ∷ rest.now)) }
 {
-    push_range(heap, out, first)?;
-    push_tail(heap, out, rest)?;
+    push_range(out, first)?;
+    push_tail(out, rest)?;
     Ok(())
 }
 
 // Appends the text of a list.
-pub fn push_list<P: PointText>(
-    heap: Global,
-    out: &mut String,
-    list: &[Range<P>],
-) -> Result<(), AllocError>
+pub fn push_list<P: PointText>(out: &mut String, list: &[Range<P>]) -> Result<(), AllocError>
     ensures value { OnOk result (string_bytes out.new ≡ string_bytes out.old ++ list_text P.text list.now) }
     ensures back { OnOk result (list_of P.reads (list_text P.text list.now) ≡ Some list.now) }
 {
-    if list.is_empty() {
-        out.push_str("none")?;
-        return Ok(());
+    match list {
+        [] => out.push_str("none"),
+        [first, rest @ ..] => push_ranges(out, *first, rest),
     }
-    push_ranges(heap, out, list[0], &list[1..])?;
-    Ok(())
 }

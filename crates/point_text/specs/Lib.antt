@@ -1,4 +1,0 @@
-pub mod Texts
-pub mod Laws
-pub mod Parts
-pub mod Wide

@@ -3,24 +3,25 @@
 // A `PointText` is a kind of points that has a text. `read_point` reads a word as a point, and `push_point` appends a point's text. What they promise
 // speaks of the text alone, so that code over `PointText` serves every kind: a word is read as a point exactly where it is the point's text, but for
 // the case of the digits of an IPv6 address, which are printed in lower case. Numbers have no zeros in front, and a number that is out of its kind,
-// as 256 in an address, is no point. It rests on `points` for the kinds, on `pieces`, `numeral` and `hex_text` for the parts of a text.
+// as 256 in an address, is no point. It rests on `point_words` for the texts and for the law, on `points` for the kinds, and on `pieces`, `numeral`
+// and `hex_text` for the parts of a text.
 #![tactic(auto)]
 
-ghost use Rattle.std.specs.Prelude.{◌≡◌, ℕ, ◌<◌, ◌≤◌, true, List, ◌∷◌, ◌++◌, map, IfSome, Some, string_bytes, decimal, Option, OnOk, refl};
+ghost use Rattle.std.specs.Prelude.{◌≡◌, ℕ, List, ◌∷◌, ◌++◌, map, string_bytes, Option, OnOk};
 ghost use Rattle.std.specs.Char.{to_ascii_lowercase};
 ghost use Rattle.numeral.specs.Numbers.{number_of};
-ghost use Rattle.pieces.specs.Marks.{lacking, beside, read_next};
+ghost use Rattle.pieces.specs.Marks.{beside, read_next};
 ghost use Rattle.pieces.specs.Views.{left};
 ghost use Rattle.points.specs.Ranks.{v4_fits, v6_fits, asn_fits};
-ghost use Rattle.point_text.specs.Texts.{itself, v4_of, v4_text, asn_of, asn_text, group_of, group_text, quad_from, quad_text, v6_of, v6_text};
-ghost use Rattle.point_text.specs.Laws.{v4_read, v4_text_lem, asn_read, asn_text_lem};
-ghost use Rattle.point_text.specs.Wide.{v6_read, v6_text_lem, v6_blind};
+ghost use Rattle.point_words.specs.Texts.{itself, v4_of, v4_text, asn_of, asn_text, group_of, group_text, quad_from, quad_text, v6_of, v6_text};
+ghost use Rattle.point_words.specs.Laws.{WordLaws};
+ghost use Rattle.point_words.proofs.Families.{v4_laws, v6_laws, asn_laws};
 
 use hex_text::{octet, push_octets};
 use numeral::read_number;
 use pieces::{Pieces, at_end};
 use points::{Asn, Point, V4, V6};
-use std::alloc::{AllocError, Global};
+use std::alloc::AllocError;
 
 // A kind of points that has a text. `proper` holds of every value that code can have; `text` is what is printed; `reads` is what a word is read as,
 // and `folded` is a word without what reading does not tell apart.
@@ -38,29 +39,20 @@ pub trait PointText: Point {
         ensures { result ≡ reads word.now };
 
     // Appends the text of the point.
-    fn push_point(self, heap: Global, out: &mut String) -> Result<(), AllocError>
+    fn push_point(self, out: &mut String) -> Result<(), AllocError>
         ensures value { OnOk result (string_bytes out.new ≡ string_bytes out.old ++ text self) }
         ensures proper { proper self };
 
-    // the text of a point is read as the point
-    ghost text_read: { (x : Self) → proper x → reads (text x) ≡ Some x };
-
-    // a word that is read as a point is its text, and holds neither of the marks of a list
-    ghost read_text: { (w : List ℕ) (x : Self) → reads w ≡ Some x → proper x × (folded w ≡ text x) × (lacking 44 w ≡ true) × (lacking 45 w ≡ true) };
-
-    // what reading does not tell apart
-    ghost blind: { (w : List ℕ) → reads (folded w) ≡ reads w };
+    // the text of a point is read as the point, and what is read as a point is its text
+    ghost words: { WordLaws proper text folded reads };
 }
 
-// The number that the next piece writes.
-fn next_number(parts: &mut Pieces<'_>, most: u64) -> Option<u64>
-    ensures value { beside (λ n. n) result (left parts.new) ≡ read_next (number_of most) (left parts.old) }
-    ensures bound { IfSome result (λ n. n ≤ most) }
+// The octet that the next piece writes in decimal.
+fn next_octet(parts: &mut Pieces<'_>) -> Option<u8>
+    ensures { beside (λ n. n) result (left parts.new) ≡ read_next (number_of 255) (left parts.old) }
 {
-    let Some(part) = parts.next() else {
-        return None;
-    };
-    read_number(part, most)
+    let part = parts.next()?;
+    Some(read_number(part, 255)? as u8)
 }
 
 // The IPv4 address that a word writes.
@@ -68,47 +60,37 @@ fn read_v4(word: &[u8]) -> Option<V4>
     ensures { result ≡ v4_of word.now }
 {
     let mut parts = Pieces::of(word, b'.');
-    let a = next_number(&mut parts, 255)?;
-    let b = next_number(&mut parts, 255)?;
-    let c = next_number(&mut parts, 255)?;
-    let d = next_number(&mut parts, 255)?;
-    let word = (a * 16_777_216 + b * 65_536 + c * 256 + d) as u32;
+    let a = next_octet(&mut parts)?;
+    let b = next_octet(&mut parts)?;
+    let c = next_octet(&mut parts)?;
+    let d = next_octet(&mut parts)?;
+    let word = u32::from_be_bytes([a, b, c, d]);
     at_end(&mut parts, V4 { word })
 }
 
 // Appends an IPv4 address.
-fn push_v4(heap: Global, point: V4, out: &mut String) -> Result<(), AllocError>
+fn push_v4(point: V4, out: &mut String) -> Result<(), AllocError>
     ensures { OnOk result (string_bytes out.new ≡ string_bytes out.old ++ v4_text point) }
 {
-    let a = point.word / 16_777_216;
-    let b = point.word / 65_536 % 256;
-    let c = point.word / 256 % 256;
-    let d = point.word % 256;
-    let text = format!(in heap; "{a}.{b}.{c}.{d}")?;
-    out.push_str(text.as_str())
+    let [a, b, c, d] = point.word.to_be_bytes();
+    write!(out, "{a}.{b}.{c}.{d}")
 }
 
 // The group that a word writes.
-fn read_group(word: &[u8]) -> Option<u64>
-    ensures value { result ≡ group_of word.now }
-    ensures bound { IfSome result (λ g. g < 65536) }
+fn read_group(word: &[u8]) -> Option<u16>
+    ensures { result ≡ group_of word.now }
 {
-    if word.len() != 4 {
+    let [a, b, c, d] = word else {
         return None;
-    }
-    let high = octet(word[0], word[1])?;
-    let low = octet(word[2], word[3])?;
-    Some(high as u64 * 256 + low as u64)
+    };
+    Some(u16::from_be_bytes([octet(*a, *b)?, octet(*c, *d)?]))
 }
 
 // The group that the next piece writes.
-fn next_group(parts: &mut Pieces<'_>) -> Option<u64>
-    ensures value { beside (λ n. n) result (left parts.new) ≡ read_next group_of (left parts.old) }
-    ensures bound { IfSome result (λ g. g < 65536) }
+fn next_group(parts: &mut Pieces<'_>) -> Option<u16>
+    ensures { beside (λ n. n) result (left parts.new) ≡ read_next group_of (left parts.old) }
 {
-    let Some(part) = parts.next() else {
-        return None;
-    };
+    let part = parts.next()?;
     read_group(part)
 }
 
@@ -116,11 +98,11 @@ fn next_group(parts: &mut Pieces<'_>) -> Option<u64>
 fn next_quad(parts: &mut Pieces<'_>) -> Option<u64>
     ensures { beside (λ n. n) result (left parts.new) ≡ quad_from (left parts.old) }
 {
-    let a = next_group(parts)?;
-    let b = next_group(parts)?;
-    let c = next_group(parts)?;
-    let d = next_group(parts)?;
-    Some(a * 281_474_976_710_656 + b * 4_294_967_296 + c * 65_536 + d)
+    let a = u64::from(next_group(parts)?);
+    let b = u64::from(next_group(parts)?);
+    let c = u64::from(next_group(parts)?);
+    let d = u64::from(next_group(parts)?);
+    Some((a << 48) + (b << 32) + (c << 16) + d)
 }
 
 // The IPv6 address that a word writes.
@@ -134,16 +116,15 @@ fn read_v6(word: &[u8]) -> Option<V6>
 }
 
 // Appends a group.
-fn push_group(group: u64, out: &mut String) -> Result<(), AllocError>
-    requires { group < 65536 }
+#[tactic(auto, unfolding(point_words::specs::Texts::group_text))]
+fn push_group(group: u16, out: &mut String) -> Result<(), AllocError>
     ensures { OnOk result (string_bytes out.new ≡ string_bytes out.old ++ group_text group) }
 {
-    push_octets(out, &[(group / 256) as u8, (group % 256) as u8])
+    push_octets(out, &group.to_be_bytes())
 }
 
 // Appends ":" and a group.
-fn push_further(group: u64, out: &mut String) -> Result<(), AllocError>
-    requires { group < 65536 }
+fn push_further(group: u16, out: &mut String) -> Result<(), AllocError>
     ensures { OnOk result (string_bytes out.new ≡ string_bytes out.old ++ (58 ∷ group_text group)) }
 {
     out.push_str(":")?;
@@ -155,10 +136,10 @@ fn push_further(group: u64, out: &mut String) -> Result<(), AllocError>
 fn push_quad(quad: u64, out: &mut String) -> Result<(), AllocError>
     ensures { OnOk result (string_bytes out.new ≡ string_bytes out.old ++ quad_text quad) }
 {
-    push_group(quad / 281_474_976_710_656, out)?;
-    push_further(quad / 4_294_967_296 % 65_536, out)?;
-    push_further(quad / 65_536 % 65_536, out)?;
-    push_further(quad % 65_536, out)?;
+    push_group((quad >> 48) as u16, out)?;
+    push_further(((quad >> 32) % 65_536) as u16, out)?;
+    push_further(((quad >> 16) % 65_536) as u16, out)?;
+    push_further((quad % 65_536) as u16, out)?;
     Ok(())
 }
 
@@ -181,18 +162,14 @@ impl PointText for V4 {
 
     ghost reads = { v4_of };
 
-    ghost text_read = { λ x h. v4_read x h };
-
-    ghost read_text = { λ w x h. v4_text_lem w x h };
-
-    ghost blind = { λ w. refl };
+    ghost words = { v4_laws };
 
     fn read_point(word: &[u8]) -> Option<V4> {
         read_v4(word)
     }
 
-    fn push_point(self, heap: Global, out: &mut String) -> Result<(), AllocError> {
-        push_v4(heap, self, out)
+    fn push_point(self, out: &mut String) -> Result<(), AllocError> {
+        push_v4(self, out)
     }
 }
 
@@ -205,17 +182,13 @@ impl PointText for V6 {
 
     ghost reads = { v6_of };
 
-    ghost text_read = { λ x h. v6_read x h };
-
-    ghost read_text = { λ w x h. v6_text_lem w x h };
-
-    ghost blind = { λ w. v6_blind w };
+    ghost words = { v6_laws };
 
     fn read_point(word: &[u8]) -> Option<V6> {
         read_v6(word)
     }
 
-    fn push_point(self, _heap: Global, out: &mut String) -> Result<(), AllocError> {
+    fn push_point(self, out: &mut String) -> Result<(), AllocError> {
         push_v6(self, out)
     }
 }
@@ -229,22 +202,14 @@ impl PointText for Asn {
 
     ghost reads = { asn_of };
 
-    ghost text_read = { λ x h. asn_read x h };
-
-    ghost read_text = { λ w x h. asn_text_lem w x h };
-
-    ghost blind = { λ w. refl };
+    ghost words = { asn_laws };
 
     fn read_point(word: &[u8]) -> Option<Asn> {
-        let number = read_number(word, 4_294_967_295)?;
-        Some(Asn {
-            number: number as u32,
-        })
+        let number = read_number(word, 4_294_967_295)? as u32;
+        Some(Asn { number })
     }
 
-    fn push_point(self, heap: Global, out: &mut String) -> Result<(), AllocError> {
-        let number = self.number;
-        let text = format!(in heap; "{number}")?;
-        out.push_str(text.as_str())
+    fn push_point(self, out: &mut String) -> Result<(), AllocError> {
+        write!(out, "{}", self.number)
     }
 }

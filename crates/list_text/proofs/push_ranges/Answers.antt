@@ -1,5 +1,4 @@
-use Rattle.std.proofs.Common.{ℕ, List, ◌∷◌, ◌++◌, string_bytes, ap, ◌∙◌}
-use Rattle.point_text.proofs.Pushes.{pushed_two}
+use Rattle.std.proofs.Common.{ℕ, List, ◌∷◌, ◌++◌, string_bytes, ap, ◌∙◌, append_assoc}
 use Rattle.list_text.specs.Lists.{range_text, tail_text}
 use Rattle.list_text.proofs.Theorem.{joined_tail, prints_back}
 use Rattle.list_text.proofs.push_ranges.Goals as goal
@@ -13,10 +12,9 @@ returns g c =
     let rs = c.args.rest.now in
     record {
       value =
-          pushed_two was (string_bytes c.push_range.new.out) (string_bytes c.push_tail.new.out) (range_text p.text r) (tail_text p.text rs)
-          c.in_ok-push_range.ensures.value c.in_ok-push_tail.ensures.value
-          ∙ ap (λ (l : List ℕ). was ++ l) (joined_tail p.text r rs);
+          c.in_ok-push_tail.ensures.value ∙ ap (λ (l : List ℕ). l ++ tail_text p.text rs) c.in_ok-push_range.ensures.value
+          ∙ append_assoc was (range_text p.text r) (tail_text p.text rs) ∙ ap (λ (l : List ℕ). was ++ l) (joined_tail p.text r rs);
       back =
-          prints_back p.reads p.text p.folded p.proper m.text_read m.read_text m.blind (r ∷ rs)
+          prints_back p.reads p.text p.folded p.proper m.words.text_read m.words.read_text m.words.blind (r ∷ rs)
           (c.in_ok-push_range.ensures.proper, c.in_ok-push_tail.ensures.proper);
     }

@@ -15,8 +15,8 @@ use Rattle.pieces.proofs.Splits.{joined_pieces, pieces_joined}
 use Rattle.points.specs.declared.V4.{V4}
 use Rattle.points.specs.declared.Asn.{Asn}
 use Rattle.points.specs.Ranks.{v4_fits, asn_fits}
-use Rattle.point_text.specs.Texts.{v4_parts, v4_text, v4_from, v4_of, asn_text, asn_of, group_text, group_of}
-use Rattle.point_text.specs.Parts.{Parts, none_some, then_inv, end_inv, four_inv, four_read, lacking_parts, lacking_push}
+use Rattle.point_words.specs.Texts.{v4_parts, v4_text, v4_from, v4_of, asn_text, asn_of, group_text, group_of}
+use Rattle.point_words.proofs.Parts.{Parts, none_some, then_inv, end_inv, four_inv, four_read, lacking_parts, lacking_push}
 
 -- the digits of a number hold no character below them
 digit_lacks : (m n : ℕ) → m < 48 → lacking m ((48 + n) ∷ []) ≡ true

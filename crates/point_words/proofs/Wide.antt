@@ -6,9 +6,9 @@ use Rattle.pieces.specs.Marks.{pieces_of, joined, lacking, and_then, at_end}
 use Rattle.pieces.proofs.Splits.{joined_pieces, pieces_joined}
 use Rattle.points.specs.declared.V6.{V6}
 use Rattle.points.specs.Ranks.{v6_fits}
-use Rattle.point_text.specs.Texts.{group_text, group_of, quad_parts, quad_from, v6_text, v6_from, v6_of}
-use Rattle.point_text.specs.Parts.{Parts, then_inv, end_inv, four_inv, four_read, four_map, lacking_parts, lacking_lower, pieces_lower}
-use Rattle.point_text.specs.Laws.{group_blind, group_inv, group_read, group_lacks}
+use Rattle.point_words.specs.Texts.{group_text, group_of, quad_parts, quad_from, v6_text, v6_from, v6_of}
+use Rattle.point_words.proofs.Parts.{Parts, then_inv, end_inv, four_inv, four_read, four_map, lacking_parts, lacking_lower, pieces_lower}
+use Rattle.point_words.proofs.Narrow.{group_blind, group_inv, group_read, group_lacks}
 
 -- the groups of 64 bits, put together and taken apart
 quad_parts_lem : (a b c d : ℕ) → a < 65536 → b < 65536 → c < 65536 → d < 65536

@@ -5,7 +5,7 @@ use Rattle.std.specs.Char.{to_ascii_lowercase}
 use Rattle.std.proofs.lemmas.Bool.{cases_Bool}
 use Rattle.std.proofs.lemmas.Bool.Decides.{nat_tests}
 use Rattle.pieces.specs.Marks.{pieces_of, lengthened, lacking, and_then, at_end}
-use Rattle.point_text.specs.Texts.{with_next, with_four}
+use Rattle.point_words.specs.Texts.{with_next, with_four}
 
 abbrev pub Parts : Type 0
 Parts = List (List ℕ)

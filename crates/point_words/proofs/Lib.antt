@@ -1,0 +1,4 @@
+pub mod Parts
+pub mod Narrow
+pub mod Wide
+pub mod Families
