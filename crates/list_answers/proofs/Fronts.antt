@@ -1,7 +1,5 @@
 -- What a call left at the front of its area. Assumes nothing.
-use Rattle.std.proofs.Common.{◌≡◌, ℕ, ◌-◌, ◌≤◌, Bool, true, false, cond, ◌&&◌, ltb, leb, List, [], ◌∷◌, ◌++◌, length, take, drop, Ok, Err, Result, sym, refl, ap, ◌∙◌, inl, inr, arith}
-use Rattle.std.proofs.lemmas.List.{take_all}
-use Rattle.std.proofs.lemmas.Bool.{cases_lt}
+use Rattle.std.proofs.Common.{◌≡◌, ℕ, Bool, true, false, cond, ◌&&◌, ltb, leb, List, [], ◌∷◌, ◌++◌, length, take, drop, Ok, Err, Result, sym, refl, ap, ◌∙◌, arith}
 use Rattle.fault.specs.declared.Rule.{Rule}
 use Rattle.element.specs.Writing.{laid}
 use Rattle.ranges.specs.declared.Range.{Range}
@@ -24,34 +22,27 @@ not_kept true true m n e f h = err_ok e n h
 not_kept true false m n e f h = cc
 not_kept false c m n e f h = err_ok f n h
 
--- a front that has so many elements is no longer than the whole
-front_fits : {X : Type 0} (n : ℕ) (xs : List X) → length (take n xs) ≡ n → n ≤ length xs
-front_fits n xs h = elim (cases_lt (length xs) n) [
-  | inl l ↦ let e : length (take n xs) ≡ length xs = ap length (take_all n xs (omega arith)) in omega arith
-  | inr l ↦ l
-]
-
+-- the front of two parts is the first
 take_front : {X : Type 0} (xs ys : List X) → take (length xs) (xs ++ ys) ≡ xs
 take_front [] [] = refl
 take_front [] (y ∷ ys) = refl
 take_front {X} (x ∷ xs) ys = ap (λ (l : List X). x ∷ l) (take_front xs ys)
 
 module _ {P : Type 0} (rank : P → ℕ) where
-  -- the joined list is as long as the answer says, so the area has it
-  pub join_fits : (xs ys after : List (Range P)) (room n : ℕ) → Ok n ≡ join_answer rank xs ys room → take n after ≡ joined rank xs ys → n ≤ length after
+  -- the joined list is as long as the answer says
+  pub join_fits : (xs ys after : List (Range P)) (room n : ℕ) → Ok n ≡ join_answer rank xs ys room → take n after ≡ joined rank xs ys → n ≡ length (take n after)
   join_fits xs ys after room n h p =
       let e : n ≡ length (joined rank xs ys) =
       let_through (lawful rank xs && lawful rank ys) (leb (length (joined rank xs ys)) 256 && leb (length (joined rank xs ys)) room) (length (joined rank xs ys)) n _ _ h in
-      front_fits n after (ap length p ∙ sym e)
+      e ∙ sym (ap length p)
 
   pub join_is : (text : P → List ℕ) (xs ys after : List (Range P)) (room n : ℕ) → Ok n ≡ join_answer rank xs ys room → take n after ≡ joined rank xs ys → joined_line text (take n after) ≡ join_reply rank text xs ys room
   join_is text xs ys after room n h p = ap (joined_line text) p ∙ ap (λ (r : Result ℕ Rule). joined_or text r (joined rank xs ys)) h
 
   pub write_is : (text : Range P → List ℕ) (xs : List (Range P)) (area after : List ℕ) (n : ℕ) → Ok n ≡ list_written rank text xs (length area) → after ≡ laid (Ok n) (octets_text text xs) area
-      → written_line (take (n - 0) after) ≡ write_reply rank text xs (length area)
+      → written_line (take n after) ≡ write_reply rank text xs (length area)
   write_is text xs area after n h p =
       let t : List ℕ = octets_text text xs in
       let e : n ≡ length t = not_kept (lawful rank xs) (ltb (length area) (length t)) (length t) n _ _ h in
-      let f : n - 0 ≡ length t = omega arith in
-      ap (λ (k : ℕ). written_line (take k after)) f ∙ ap (λ (s : List ℕ). written_line (take (length t) s)) p
+      ap (λ (k : ℕ). written_line (take k after)) e ∙ ap (λ (s : List ℕ). written_line (take (length t) s)) p
       ∙ ap written_line (take_front t (drop (length t) area)) ∙ ap (λ (r : Result ℕ Rule). written_or r t) h

@@ -15,7 +15,7 @@ ghost use Rattle.resources.specs.declared.May.TheVariants.{Either};
 ghost use Rattle.list_answers.specs.Replies.{refusal, joined_line, join_reply, fault_line, fault_answer, read_reply, written_line, write_reply, room_given};
 
 use entry_writer::WrittenResource;
-use fault::{Fault, Report, Rule};
+use fault::{Fault, Report, Rule, SetFault};
 use hex_text::push_octets;
 use list_text::push_list;
 use list_writer::write;
@@ -42,18 +42,6 @@ fn joined_line<P: PointText>(heap: Global, list: &[Range<P>]) -> Result<String, 
     Ok(line)
 }
 
-// The answer of a call that left the joined list at the front of its area.
-fn joined_front<P: PointText>(
-    heap: Global,
-    area: &[Range<P>],
-    count: usize,
-) -> Result<String, AllocError>
-    requires { count ≤ length area.now }
-    ensures { IfOk result (λ s. string_bytes s ≡ joined_line P.text (take count area.now)) }
-{
-    joined_line(heap, &area[0..count])
-}
-
 // The answer of `join`, where the joined list is left in the area.
 pub fn join_answer<P: PointText>(
     heap: Global,
@@ -64,25 +52,29 @@ pub fn join_answer<P: PointText>(
     ensures { IfOk result (λ s. string_bytes s ≡ join_reply P.Point.rank P.text one.now other.now (length area.old)) }
 {
     match join(one, other, area) {
-        Ok(count) => joined_front(heap, area, count),
+        Ok(count) => joined_line(heap, &area[..count]),
         Err(rule) => refused(heap, "join", rule),
     }
 }
 
-// The answer of a call that found a fault, by its number, its place and the word of its layer.
-fn fault_line(heap: Global, number: u8, place: usize, layer: &str) -> Result<String, AllocError>
-    ensures { IfOk result (λ s. string_bytes s ≡ fault_line number place layer.now) }
-{
-    format!(in heap; "read fault {number} at {place} in {layer}\n")
-}
-
-// The answer of a call that found a fault.
+// The answer of a call that found a fault: its number, its place and the word of its layer.
 fn fault_answer(heap: Global, report: Report) -> Result<String, AllocError>
     ensures { IfOk result (λ s. string_bytes s ≡ fault_answer report) }
 {
     let number = report.rule.number();
+    let place = report.place;
     let layer = report.layer.word();
-    fault_line(heap, number, report.place, layer)
+    format!(in heap; "read fault {number} at {place} in {layer}\n")
+}
+
+// The answer of a call that reads the value of a resource extension, by what its reader answered.
+fn read_answer<V: Drop>(heap: Global, answer: Result<V, SetFault>) -> Result<String, AllocError>
+    ensures { IfOk result (λ s. string_bytes s ≡ read_reply (reported set_report answer)) }
+{
+    match answer {
+        Ok(_) => String::from_str(heap, "read ok\n"),
+        Err(fault) => fault_answer(heap, fault.report()),
+    }
 }
 
 // The answer of `read addresses OCTETS`.
@@ -90,10 +82,7 @@ pub fn addresses_answer(heap: Global, octets: &[u8]) -> Result<String, AllocErro
     ensures { IfOk result (λ s. string_bytes s ≡ read_reply (addresses_of Either (alone octets.now))) }
 {
     let mut tables = Tables::new();
-    match read_addresses_value(octets, May::Either, &mut tables) {
-        Ok(_) => String::from_str(heap, "read ok\n"),
-        Err(fault) => fault_answer(heap, fault.report()),
-    }
+    read_answer(heap, read_addresses_value(octets, May::Either, &mut tables))
 }
 
 // The answer of `read asn OCTETS`.
@@ -101,10 +90,7 @@ pub fn asn_answer(heap: Global, octets: &[u8]) -> Result<String, AllocError>
     ensures { IfOk result (λ s. string_bytes s ≡ read_reply (asn_of Either (alone octets.now))) }
 {
     let mut tables = Tables::new();
-    match read_asn_value(octets, May::Either, &mut tables) {
-        Ok(_) => String::from_str(heap, "read ok\n"),
-        Err(fault) => fault_answer(heap, fault.report()),
-    }
+    read_answer(heap, read_asn_value(octets, May::Either, &mut tables))
 }
 
 // The answer of a call that wrote a list.
@@ -126,20 +112,20 @@ fn written<P: WrittenResource>(
     ensures { IfOk result (λ s. string_bytes s ≡ write_reply P.Point.rank P.text list.now (length area.old)) }
 {
     match write(list, area) {
-        Ok(size) => written_line(heap, &area[0..size]),
+        Ok(size) => written_line(heap, &area[..size]),
         Err(rule) => refused(heap, "write", rule),
     }
 }
+
+// The octets of the longest text of a list.
+const LONGEST: usize = 10_244;
 
 // The octets of the area that a call asks for: no list has a text longer than all of it.
 fn room_given(room: Option<u64>) -> usize
     ensures value { result ≡ room_given room }
     ensures bound { result ≤ 10244 }
 {
-    match room {
-        Some(room) => { if room < 10_244 { room as usize } else { 10_244 } },
-        None => 10_244,
-    }
+    room.unwrap_or(LONGEST as u64).min(LONGEST as u64) as usize
 }
 
 // The answer of `write`.
@@ -150,7 +136,7 @@ pub fn write_answer<P: WrittenResource>(
 ) -> Result<String, AllocError>
     ensures { IfOk result (λ s. string_bytes s ≡ write_reply P.Point.rank P.text list.now (room_given room)) }
 {
-    let mut area = [0u8; 10_244];
+    let mut area = [0u8; LONGEST];
     let size = room_given(room);
-    written(heap, list, &mut area[0..size])
+    written(heap, list, &mut area[..size])
 }

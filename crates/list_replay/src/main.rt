@@ -17,12 +17,7 @@ fn misused(rt: &HostRuntime) -> Result<(), Failure> {
 }
 
 fn run(rt: &HostRuntime) -> Result<(), Failure> {
-    let mut words = Vec::new(rt.alloc());
-    for (i, word) in env::args(rt)?.enumerate() {
-        if i > 0 {
-            words.push(word)?;
-        }
-    }
+    let words: Vec<String> = env::args(rt)?.skip(1).collect(rt.alloc())?;
     match words.as_slice() {
         [path] => run_replay(rt, path.as_str()),
         _ => misused(rt),

@@ -1,7 +1,7 @@
 // `zapuhoti judge`: the verdict on a route by a printed list of payloads.
 use fault::Rule;
 use listing::put_line;
-use listing_reader::read;
+use listing_reader::{BadLine, read};
 use payload::{Family, Payload, PayloadList, Prefix};
 use route_text::{Misspelt, read_origin, read_route};
 use running::files::{Failure, flush, read_log};
@@ -30,44 +30,38 @@ fn tell_refusal(rt: &HostRuntime, word: &str, rule: Rule) -> Failure {
     }
 }
 
-// Room for the payloads of a list.
-fn make_room(rt: &HostRuntime) -> Result<Vec<Payload>, Failure> {
-    let blank = Payload {
-        asn: 0,
-        prefix: Prefix {
-            family: Family::Ipv4,
-            address: 0,
-            length: 0,
-        },
-        max: 0,
-    };
-    let mut entries = Vec::new(rt.alloc());
-    for _ in 0..ROOM {
-        entries.push(blank)?;
-    }
-    Ok(entries)
-}
+// A payload that stands in the room of a list before it is read.
+const BLANK: Payload = Payload {
+    asn: 0,
+    prefix: Prefix {
+        family: Family::Ipv4,
+        address: 0,
+        length: 0,
+    },
+    max: 0,
+};
 
-// What is said of a payload that covers a route; nothing of one that does not.
-fn heading(relation: Relation) -> Option<(&'static str, &'static str)> {
-    match relation {
-        Relation::Apart => None,
-        Relation::Matches => Some(("matches ", "")),
-        Relation::AsZero => Some(("covers ", ": AS 0 matches no route")),
-        Relation::NoOrigin => Some(("covers ", ": the route has no origin")),
-        Relation::OtherAs => Some(("covers ", ": another AS")),
-        Relation::TooLong => Some(("covers ", ": the route is longer than the maximum")),
+// The line of a payload without its newline, as it is printed.
+fn line_of<'a>(p: Payload, area: &'a mut [u8; 256]) -> &'a str {
+    let size = put_line(area, p);
+    match std::str::from_utf8(&area[..size]) {
+        Ok(line) => line.trim_end(),
+        Err(_) => "",
     }
 }
 
-// Appends the line of a payload without its newline, as it is printed.
-fn push_payload(text: &mut String, p: Payload) -> Result<(), AllocError> {
+// Appends the line of a payload that covers a route, and why it does not match; nothing of one that does not cover it.
+fn push_relation(text: &mut String, p: Payload, relation: Relation) -> Result<(), AllocError> {
     let mut area = [0u8; 256];
-    let size = put_line(&mut area, p);
-    if let Ok(line) = std::str::from_utf8(&area[0..size]) {
-        text.push_str(line.trim_end())?;
+    let line = line_of(p, &mut area);
+    match relation {
+        Relation::Apart => Ok(()),
+        Relation::Matches => writeln!(text, "matches {line}"),
+        Relation::AsZero => writeln!(text, "covers {line}: AS 0 matches no route"),
+        Relation::NoOrigin => writeln!(text, "covers {line}: the route has no origin"),
+        Relation::OtherAs => writeln!(text, "covers {line}: another AS"),
+        Relation::TooLong => writeln!(text, "covers {line}: the route is longer than the maximum"),
     }
-    Ok(())
 }
 
 // Prints the verdict, and a line for each payload that covers the route.
@@ -83,15 +77,12 @@ fn print_verdict(
     }
     let mut text = String::new(rt.alloc());
     for p in list.payloads() {
-        let Ok(relation) = relate(*p, route) else {
-            continue;
-        };
-        if let Some((before, after)) = heading(relation) {
-            text.push_str(before)?;
-            push_payload(&mut text, *p)?;
-            text.push_str(after)?;
-            text.push('\n')?;
-            flush(rt, &mut text, false)?;
+        match relate(*p, route) {
+            Err(_) | Ok(Relation::Apart) => {},
+            Ok(relation) => {
+                push_relation(&mut text, *p, relation)?;
+                flush(rt, &mut text, false)?;
+            },
         }
     }
     flush(rt, &mut text, true)
@@ -113,11 +104,9 @@ pub fn run_judge(
         Err(why) => return Err(tell_word(rt, origin_word, why)),
     };
     let octets = read_log(rt, path)?;
-    let mut entries = make_room(rt)?;
+    let mut entries = vec![in rt.alloc(); BLANK; ROOM]?;
     let mut list = PayloadList::new(entries.as_mut_slice());
-    if let Err(bad) = read(octets.as_slice(), &mut list) {
-        let line = bad.line;
-        let why = bad.why;
+    if let Err(BadLine { line, why }) = read(octets.as_slice(), &mut list) {
         eprintln!(rt; "line {line}: {why}")?;
         return Err(Failure::Told);
     }
