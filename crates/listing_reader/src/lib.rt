@@ -139,7 +139,7 @@ fn head<'a>(s: &'a [u8]) -> Option<(usize, &'a [u8])>
     ensures value { option_map beside result ≡ head_of s.now }
     ensures bound { IfSome result (λ h. h.0 < 2 ^ 44) }
 {
-    let count = count(s)? as usize;
+    let count = count(s)? as usize; // any count fits: `try_from` would add an answer that never comes
     let rest = past_head(s, count)?;
     Some((count, rest))
 }
@@ -198,6 +198,7 @@ fn read_lines(s: &[u8], count: usize, list: &mut PayloadList<'_>) -> Result<(), 
     ensures rest { drop (length (held list.new)) list.new.entries.now ≡ drop (length (held list.new)) list.old.entries.now }
 {
     let mut rest = s;
+    // by number: the line of a payload is told by it, and a range of lines is no plainer
     for i in 0..count {
         match next(list, rest) {
             Ok((p, after)) => {

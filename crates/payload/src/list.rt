@@ -8,6 +8,7 @@ mod calls;
 // A list of payloads: the first `count` entries, each before the next in the order. The other entries are room.
 #[derive(Drop)]
 pub struct PayloadList<'a> {
+    // a slice and a count in place of a Vec: the memory is lent, as in every library crate
     entries: &'a mut [Payload],
     count: usize,
     // where it is true, every prefix of the list is lawful
