@@ -36,6 +36,10 @@ written_from {s} {a} {b} {c} {at} {m} {n} e f w =
     let Q : ℕ → Type 0 = λ k. Written s a k c n in
     subst Q f (subst P e w)
 
+-- a writer's area, once the writer is done with
+pub written_to : {s a b c : List ℕ} {at n : ℕ} → Written s a at b n → c ≡ b → Written s a at c n
+written_to {s} {a} {b} {c} {at} {n} w e = let P : List ℕ → Type 0 = λ l. Written s a at l n in subst P (sym e) w
+
 -- one octet, inside the area and past it
 pub put_inside : (o at : ℕ) (a b : List ℕ) → b ≡ set a at o → Written (o ∷ []) a at b (at + 1)
 put_inside o at a b e = record { octets = e; place = refl }

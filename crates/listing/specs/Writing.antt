@@ -3,6 +3,7 @@ use Rattle.std.specs.Prelude.{◌≡◌, ℕ, ◌+◌, cond, List, ◌++◌, len
 use Rattle.std.proofs.lemmas.List.Edits.{sets}
 use Rattle.fault.specs.declared.Rule.{Rule}
 use Rattle.fault.specs.declared.Rule.TheVariants.{Area}
+use Rattle.listing.specs.declared.writer.Writer.{Writer}
 
 -- the octets of a text that is to stand in an area of so many octets, or the rule that refuses it
 abbrev pub room_for : List ℕ → ℕ → Result ℕ Rule
@@ -18,3 +19,11 @@ laid (Err e) text area = area
 pub record Written (text area : List ℕ) (at : ℕ) (after : List ℕ) (next : ℕ) : Type 0 where
   pub octets : after ≡ sets area at text
   pub place : next ≡ at + length text
+
+-- a writer wrote a text, and stands after it
+abbrev pub Writes : List ℕ → Writer → Writer → Type 0
+Writes text s t = Written text s.area.now s.at t.area.now t.at
+
+-- a writer writes into the area that it was made with
+abbrev pub SameArea : Writer → Writer → Type 0
+SameArea s t = t.area.ghost_name ≡ s.area.ghost_name

@@ -11,48 +11,13 @@ ghost use Rattle.std.specs.Prelude.{◌≡◌, ℕ, ◌+◌, ◌^◌, ◌<◌, �
 ghost use Rattle.payload.specs.Lists.{held};
 ghost use Rattle.listing.specs.Laws.{TextTells};
 ghost use Rattle.listing.specs.Texts.{octet_at, ipv4_text, hex_digit, group_at, group_text, ipv6_text, address_text, line_text, head_text, lines_text, list_text};
-ghost use Rattle.listing.specs.Writing.{room_for, laid, Written};
+ghost use Rattle.listing.specs.Writing.{room_for, laid, Written, Writes, SameArea};
+
+mod writer;
 
 use fault::Rule;
 use payload::{Family, Payload, PayloadList};
-
-// Writes an octet, if the area goes so far, and answers the next place.
-fn put(area: &mut [u8], at: usize, octet: u8) -> usize
-    requires { at < 2 ^ 32 }
-    ensures written { Written (octet ∷ []) area.old at area.new result }
-    ensures bound { result ≤ at + 1 }
-{
-    if at < area.len() {
-        area[at] = octet;
-    }
-    at + 1
-}
-
-// Writes a word.
-fn put_word(area: &mut [u8], at: usize, word: &[u8]) -> usize
-    requires { at + length word.now < 2 ^ 32 }
-    ensures written { Written word.now area.old at area.new result }
-    ensures bound { result ≤ at + length word.now }
-{
-    let mut next = at;
-    for octet in word {
-        next = put(area, next, *octet);
-    }
-    next
-}
-
-// Writes a number in decimal.
-fn put_decimal(area: &mut [u8], at: usize, number: u64) -> usize
-    requires { at < 2 ^ 16 }
-    ensures written { Written (decimal number) area.old at area.new result }
-    ensures bound { result ≤ at + 20 }
-{
-    let mut next = at;
-    if number >= 10 {
-        next = put_decimal(area, at, number / 10);
-    }
-    put(area, next, b'0' + (number % 10) as u8)
-}
+use writer::Writer;
 
 // The octet of an address at a place.
 fn octet_at(place: u8, address: u128) -> u64
@@ -61,44 +26,6 @@ fn octet_at(place: u8, address: u128) -> u64
     ensures bound { result < 256 }
 {
     ((address >> (120 - 8 * place)) % 256) as u64
-}
-
-// Writes an IPv4 address.
-fn put_ipv4(area: &mut [u8], at: usize, address: u128) -> usize
-    requires { at < 2 ^ 15 }
-    ensures written { Written (ipv4_text address) area.old at area.new result }
-    ensures bound { result ≤ at + 128 }
-{
-    let mut next = at;
-    for place in 0..3 {
-        next = put_decimal(area, next, octet_at(place, address));
-        next = put(area, next, b'.');
-    }
-    put_decimal(area, next, octet_at(3, address))
-}
-
-// The lower-case digit of a number below 16.
-fn digit(number: u64) -> u8
-    requires { number < 16 }
-    ensures { result ≡ hex_digit number }
-{
-    if number < 10 {
-        number as u8 + b'0'
-    } else {
-        number as u8 - 10 + b'a'
-    }
-}
-
-// Writes a group of 16 bits.
-fn put_group(area: &mut [u8], at: usize, group: u64) -> usize
-    requires { (at < 2 ^ 16) × (group < 65536) }
-    ensures written { Written (group_text group) area.old at area.new result }
-    ensures bound { result ≤ at + 4 }
-{
-    let next = put(area, at, digit(group / 4096));
-    let next = put(area, next, digit(group / 256 % 16));
-    let next = put(area, next, digit(group / 16 % 16));
-    put(area, next, digit(group % 16))
 }
 
 // The group of an address at a place.
@@ -110,29 +37,112 @@ fn group_at(place: u8, address: u128) -> u64
     ((address >> (112 - 16 * place)) % 65_536) as u64
 }
 
-// Writes an IPv6 address.
-fn put_ipv6(area: &mut [u8], at: usize, address: u128) -> usize
-    requires { at < 2 ^ 15 }
-    ensures written { Written (ipv6_text address) area.old at area.new result }
-    ensures bound { result ≤ at + 128 }
+// The lower-case digit of a number below 16. (hex_text writes its digits into a String on the heap, and this crate has none.)
+fn digit(number: u64) -> u8
+    requires { number < 16 }
+    ensures { result ≡ hex_digit number }
 {
-    let mut next = at;
-    for place in 0..7 {
-        next = put_group(area, next, group_at(place, address));
-        next = put(area, next, b':');
+    if number < 10 {
+        number as u8 + b'0'
+    } else {
+        number as u8 - 10 + b'a'
     }
-    put_group(area, next, group_at(7, address))
 }
 
-// Writes an address.
-fn put_address(area: &mut [u8], at: usize, family: Family, address: u128) -> usize
-    requires { at < 2 ^ 15 }
-    ensures written { Written (address_text family address) area.old at area.new result }
-    ensures bound { result ≤ at + 128 }
-{
-    match family {
-        Family::Ipv4 => put_ipv4(area, at, address),
-        Family::Ipv6 => put_ipv6(area, at, address),
+impl Writer<'_> {
+    // Writes an octet, if the area goes so far.
+    fn octet(&mut self, octet: u8)
+        requires { self.old.at < 2 ^ 32 }
+        ensures written { Writes (octet ∷ []) self.old self.new }
+        ensures kept { SameArea self.old self.new }
+        ensures bound { self.new.at ≤ self.old.at + 1 }
+    {
+        // `get_mut` would lend the area on, and its ghost name with it: no plainer
+        if self.at < self.area.len() {
+            self.area[self.at] = octet;
+        }
+        self.at += 1;
+    }
+
+    // Writes a word.
+    fn word(&mut self, word: &[u8])
+        requires { self.old.at + length word.now < 2 ^ 32 }
+        ensures written { Writes word.now self.old self.new }
+        ensures kept { SameArea self.old self.new }
+        ensures bound { self.new.at ≤ self.old.at + length word.now }
+    {
+        for octet in word {
+            self.octet(*octet);
+        }
+    }
+
+    // Writes a number in decimal.
+    fn decimal(&mut self, number: u64)
+        requires { self.old.at < 2 ^ 16 }
+        ensures written { Writes (decimal number) self.old self.new }
+        ensures kept { SameArea self.old self.new }
+        ensures bound { self.new.at ≤ self.old.at + 20 }
+    {
+        if number >= 10 {
+            self.decimal(number / 10);
+        }
+        self.octet(b'0' + (number % 10) as u8);
+    }
+
+    // Writes an IPv4 address.
+    fn ipv4(&mut self, address: u128)
+        requires { self.old.at < 2 ^ 15 }
+        ensures written { Writes (ipv4_text address) self.old self.new }
+        ensures kept { SameArea self.old self.new }
+        ensures bound { self.new.at ≤ self.old.at + 128 }
+    {
+        // by place, as the text of so many octets is told: an iterator over `to_be_bytes` is no plainer
+        for place in 0..3 {
+            self.decimal(octet_at(place, address));
+            self.octet(b'.');
+        }
+        self.decimal(octet_at(3, address));
+    }
+
+    // Writes a group of 16 bits.
+    fn group(&mut self, group: u64)
+        requires { (self.old.at < 2 ^ 16) × (group < 65536) }
+        ensures written { Writes (group_text group) self.old self.new }
+        ensures kept { SameArea self.old self.new }
+        ensures bound { self.new.at ≤ self.old.at + 4 }
+    {
+        self.octet(digit(group / 4096));
+        self.octet(digit(group / 256 % 16));
+        self.octet(digit(group / 16 % 16));
+        self.octet(digit(group % 16));
+    }
+
+    // Writes an IPv6 address.
+    fn ipv6(&mut self, address: u128)
+        requires { self.old.at < 2 ^ 15 }
+        ensures written { Writes (ipv6_text address) self.old self.new }
+        ensures kept { SameArea self.old self.new }
+        ensures bound { self.new.at ≤ self.old.at + 128 }
+    {
+        // by place, likewise
+        for place in 0..7 {
+            self.group(group_at(place, address));
+            self.octet(b':');
+        }
+        self.group(group_at(7, address));
+    }
+
+    // Writes an address.
+    fn address(&mut self, family: Family, address: u128)
+        requires { self.old.at < 2 ^ 15 }
+        ensures written { Writes (address_text family address) self.old self.new }
+        ensures kept { SameArea self.old self.new }
+        ensures bound { self.new.at ≤ self.old.at + 128 }
+    {
+        match family {
+            Family::Ipv4 => self.ipv4(address),
+            Family::Ipv6 => self.ipv6(address),
+        }
     }
 }
 
@@ -141,15 +151,17 @@ pub fn put_line(area: &mut [u8], p: Payload) -> usize
     ensures written { Written (line_text p) area.old 0 area.new result }
     ensures bound { result ≤ 256 }
 {
-    let next = put_word(area, 0, b"asn=");
-    let next = put_decimal(area, next, p.asn as u64);
-    let next = put_word(area, next, b" prefix=");
-    let next = put_address(area, next, p.prefix.family, p.prefix.address);
-    let next = put_word(area, next, b"/");
-    let next = put_decimal(area, next, p.prefix.length as u64);
-    let next = put_word(area, next, b" max=");
-    let next = put_decimal(area, next, p.max as u64);
-    put_word(area, next, b"\n")
+    let mut text = Writer { area, at: 0 };
+    text.word(b"asn=");
+    text.decimal(u64::from(p.asn));
+    text.word(b" prefix=");
+    text.address(p.prefix.family, p.prefix.address);
+    text.word(b"/");
+    text.decimal(u64::from(p.prefix.length));
+    text.word(b" max=");
+    text.decimal(u64::from(p.max));
+    text.word(b"\n");
+    text.at
 }
 
 // Writes the first line, which says how many payloads there are, likewise.
@@ -157,9 +169,11 @@ pub fn put_head(area: &mut [u8], count: usize) -> usize
     ensures written { Written (head_text count) area.old 0 area.new result }
     ensures bound { result ≤ 256 }
 {
-    let next = put_word(area, 0, b"payloads=");
-    let next = put_decimal(area, next, count as u64);
-    put_word(area, next, b"\n")
+    let mut text = Writer { area, at: 0 };
+    text.word(b"payloads=");
+    text.decimal(count as u64);
+    text.word(b"\n");
+    text.at
 }
 
 // The length of the line of a payload.
