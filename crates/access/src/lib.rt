@@ -13,6 +13,7 @@ ghost use Rattle.layout.specs.Expecting.{told_by};
 ghost use Rattle.names.specs.Tests.{is_folder, is_manifest_name};
 ghost use Rattle.access.specs.Access.{Names, names_in, agrees, stands_in, folder_in, manifest_in, other_in, described, descriptions_of, access_of, access_in};
 
+use content::tag;
 use element::{Element, Part};
 use fault::Rule;
 use file_faults::CertificateFault;
@@ -52,7 +53,7 @@ fn manifest_test(octets: &[u8], folder: Option<Part<'_>>) -> bool
 fn read_folder<'a>(rest: Part<'a>, manifest: Option<Part<'_>>) -> Result<Part<'a>, CertificateFault>
     ensures { told_by certificate_report octets_of result ≡ folder_in (option_map octets_of manifest.entry) (octets_of rest.entry) }
 {
-    let (name, rest) = expect::<CertificateFault>(rest, 0x86)?;
+    let (name, rest) = expect::<CertificateFault>(rest, tag::URI)?;
     if !folder_test(name.content.octets, manifest) {
         return Err(CertificateFault::own(Rule::Value, name.place));
     }
@@ -64,7 +65,7 @@ fn read_folder<'a>(rest: Part<'a>, manifest: Option<Part<'_>>) -> Result<Part<'a
 fn read_manifest<'a>(rest: Part<'a>, folder: Option<Part<'_>>) -> Result<Part<'a>, CertificateFault>
     ensures { told_by certificate_report octets_of result ≡ manifest_in (option_map octets_of folder.entry) (octets_of rest.entry) }
 {
-    let (name, rest) = expect::<CertificateFault>(rest, 0x86)?;
+    let (name, rest) = expect::<CertificateFault>(rest, tag::URI)?;
     if !manifest_test(name.content.octets, folder) {
         return Err(CertificateFault::own(Rule::Value, name.place));
     }
@@ -76,7 +77,7 @@ fn read_manifest<'a>(rest: Part<'a>, folder: Option<Part<'_>>) -> Result<Part<'a
 fn pass_over<'a>(rest: Part<'a>) -> Result<Part<'a>, CertificateFault>
     ensures { told_by certificate_report octets_of result ≡ other_in (octets_of rest.entry) }
 {
-    let (name, rest) = expect::<CertificateFault>(rest, 0x86)?;
+    let (name, rest) = expect::<CertificateFault>(rest, tag::URI)?;
     end::<CertificateFault>(rest)?;
     Ok(name.content)
 }
@@ -134,7 +135,7 @@ fn read_descriptions<'a>(content: Part<'a>) -> Result<Access<'a>, CertificateFau
 pub fn read_access<'a>(value: Part<'a>) -> Result<Access<'a>, CertificateFault>
     ensures { told_by certificate_report access_in result ≡ access_of (octets_of value.entry) }
 {
-    let (row, rest) = expect::<CertificateFault>(value, 0x30)?;
+    let (row, rest) = expect::<CertificateFault>(value, tag::SEQUENCE)?;
     let access = read_descriptions(row.content)?;
     end::<CertificateFault>(rest)?;
     Ok(access)

@@ -12,6 +12,8 @@ ghost use Rattle.content.specs.Forms.{form_of, boolean_form, integer_form, bits_
 ghost use Rattle.content.specs.Grammar.{Checked, ValueIn, BooleanValue, IntegerValue, BitStringValue, OidValue, ValuesOneToOne};
 ghost use Rattle.content.specs.Values.{boolean_of, integer_seen, integer_of, bits_seen, bits_of, oid_seen, oid_of};
 
+pub mod tag;
+
 use fault::Breach;
 use moment::{generalized_time, utc_time};
 
@@ -41,17 +43,17 @@ impl From<u8> for Kind {
         ensures { result ≡ kind_of tag }
     {
         match tag {
-            0x01 => Kind::Boolean,
-            0x02 => Kind::Integer,
-            0x03 => Kind::BitString,
-            0x04 => Kind::OctetString,
-            0x05 => Kind::Null,
-            0x06 => Kind::Oid,
-            0x16 => Kind::Ia5String,
-            0x17 => Kind::UtcTime,
-            0x18 => Kind::GeneralizedTime,
-            0x30 => Kind::Sequence,
-            0x31 => Kind::Set,
+            tag::BOOLEAN => Kind::Boolean,
+            tag::INTEGER => Kind::Integer,
+            tag::BIT_STRING => Kind::BitString,
+            tag::OCTET_STRING => Kind::OctetString,
+            tag::NULL => Kind::Null,
+            tag::OID => Kind::Oid,
+            tag::IA5_STRING => Kind::Ia5String,
+            tag::UTC_TIME => Kind::UtcTime,
+            tag::GENERALIZED_TIME => Kind::GeneralizedTime,
+            tag::SEQUENCE => Kind::Sequence,
+            tag::SET => Kind::Set,
             _ => Kind::Other,
         }
     }

@@ -15,6 +15,7 @@ ghost use Rattle.crl.specs.Rows.{row_step, revoked_of};
 ghost use Rattle.crl.specs.Extensions.{Found, found_in, key_of, number_of, extension_step, extensions_of};
 ghost use Rattle.crl.specs.Lists.{front_in, front_of, tail_in, tail_of, wrapped_of, body_in, body_of, value_in, inside_of, file_of, crl_of};
 
+use content::tag;
 use element::{Element, Part};
 use fault::Rule;
 use fields::{constant_integer, number20, sequence, serial, time, whole};
@@ -50,7 +51,7 @@ impl<'a> Row<'a, CrlFault> for Revoked {
 
     // Reads the row of a revoked certificate: its serial, and when it was revoked.
     fn take(self, row: &Element<'a>) -> Result<Revoked, CrlFault> {
-        if row.tag != 0x30 {
+        if row.tag != tag::SEQUENCE {
             return Err(CrlFault::own(Rule::Structure, row.place));
         }
         let (_, rest) = serial::<CrlFault>(row.content)?;
@@ -175,12 +176,12 @@ fn read_tail<'a>(rest: Part<'a>) -> Result<(Option<Part<'a>>, Element<'a>, Part<
     ensures value { told_by crl_report tail_in result ≡ tail_of (octets_of rest.entry) }
 {
     let (element, rest) = next::<CrlFault>(rest)?;
-    if element.tag == 0x30 {
+    if element.tag == tag::SEQUENCE {
         read_revoked(element.content)?;
-        let (extensions, rest) = expect::<CrlFault>(rest, 0xa0)?;
+        let (extensions, rest) = expect::<CrlFault>(rest, tag::EXPLICIT_0)?;
         return Ok((Some(element.content), extensions, rest));
     }
-    if element.tag != 0xa0 {
+    if element.tag != tag::EXPLICIT_0 {
         return Err(CrlFault::own(Rule::Structure, element.place));
     }
     Ok((None, element, rest))
@@ -190,7 +191,7 @@ fn read_tail<'a>(rest: Part<'a>) -> Result<(Option<Part<'a>>, Element<'a>, Part<
 fn read_wrapped<'a>(content: Part<'a>) -> Result<(Part<'a>, Part<'a>), CrlFault>
     ensures { told_by crl_report both_of result ≡ wrapped_of (octets_of content.entry) }
 {
-    let (row, rest) = expect::<CrlFault>(content, 0x30)?;
+    let (row, rest) = expect::<CrlFault>(content, tag::SEQUENCE)?;
     let found = read_extensions(row.content)?;
     end::<CrlFault>(rest)?;
     Ok(found)
@@ -225,7 +226,7 @@ fn read_body<'a>(content: Part<'a>) -> Result<Body<'a>, CrlFault>
 fn read_inside<'a>(content: Part<'a>) -> Result<Crl<'a>, CrlFault>
     ensures { told_by crl_report value_in result ≡ inside_of (octets_of content.entry) }
 {
-    let (signed, body, rest) = whole::<CrlFault>(content, 0x30)?;
+    let (signed, body, rest) = whole::<CrlFault>(content, tag::SEQUENCE)?;
     let body = read_body(body.content)?;
     let signature = seal::<CrlFault>(rest, body.head.algorithm.octets)?;
     Ok(Crl {
@@ -244,7 +245,7 @@ fn read_inside<'a>(content: Part<'a>) -> Result<Crl<'a>, CrlFault>
 pub fn read_crl<'a>(file: &'a [u8]) -> Result<Crl<'a>, CrlFault>
     ensures { told_by crl_report value_in result ≡ crl_of (file_of file.now) }
 {
-    let (list, rest) = expect::<CrlFault>(Part::whole(file), 0x30)?;
+    let (list, rest) = expect::<CrlFault>(Part::whole(file), tag::SEQUENCE)?;
     let value = read_inside(list.content)?;
     end::<CrlFault>(rest)?;
     Ok(value)

@@ -6,7 +6,7 @@
 // the text longer than a fixed number of times its own length. It rests on `walk` and `content`.
 #![tactic(auto)]
 
-use content::{BitString, Integer, Kind, read_bit_string, read_boolean, read_integer, read_oid};
+use content::{tag, BitString, Integer, Kind, read_bit_string, read_boolean, read_integer, read_oid};
 use hex_text::push_octets;
 use moment::{Moment, generalized_time, utc_time};
 use std::alloc::{AllocError, Global};
@@ -48,20 +48,20 @@ impl<'a> From<&Node<'a>> for Line<'a> {
 // The name of a tag that has one.
 fn tag_name(tag: u8) -> Option<&'static str> {
     match tag {
-        0x01 => Some("BOOLEAN"),
-        0x02 => Some("INTEGER"),
-        0x03 => Some("BIT STRING"),
-        0x04 => Some("OCTET STRING"),
-        0x05 => Some("NULL"),
-        0x06 => Some("OBJECT IDENTIFIER"),
-        0x0a => Some("ENUMERATED"),
-        0x0c => Some("UTF8String"),
-        0x13 => Some("PrintableString"),
-        0x16 => Some("IA5String"),
-        0x17 => Some("UTCTime"),
-        0x18 => Some("GeneralizedTime"),
-        0x30 => Some("SEQUENCE"),
-        0x31 => Some("SET"),
+        tag::BOOLEAN => Some("BOOLEAN"),
+        tag::INTEGER => Some("INTEGER"),
+        tag::BIT_STRING => Some("BIT STRING"),
+        tag::OCTET_STRING => Some("OCTET STRING"),
+        tag::NULL => Some("NULL"),
+        tag::OID => Some("OBJECT IDENTIFIER"),
+        tag::ENUMERATED => Some("ENUMERATED"),
+        tag::UTF8_STRING => Some("UTF8String"),
+        tag::PRINTABLE_STRING => Some("PrintableString"),
+        tag::IA5_STRING => Some("IA5String"),
+        tag::UTC_TIME => Some("UTCTime"),
+        tag::GENERALIZED_TIME => Some("GeneralizedTime"),
+        tag::SEQUENCE => Some("SEQUENCE"),
+        tag::SET => Some("SET"),
         _ => None,
     }
 }
@@ -279,7 +279,7 @@ impl Printer<'_> {
 
     // Appends the octets of a tag without a typed value: in hexadecimal, and as text too where they are such.
     fn push_other(&mut self, tag: u8, octets: &[u8]) -> Result<(), AllocError> {
-        if tag == 0x0c || tag == 0x13 {
+        if tag == tag::UTF8_STRING || tag == tag::PRINTABLE_STRING {
             return self.push_text(octets);
         }
         self.push_hex(octets)?;

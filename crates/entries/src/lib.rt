@@ -17,7 +17,7 @@ ghost use Rattle.entries.specs.Addresses.{ends_of};
 ghost use Rattle.entries.specs.Forms.{bits, tag, both, low, high, stands, standing, pair_in, entry_in};
 ghost use Rattle.entries.specs.Kinds.{v4_entry, v6_entry, asn_entry};
 
-use content::read_bit_string;
+use content::{read_bit_string, tag};
 use element::{Element, Part};
 use family::Family;
 use fault::{Rule, SetFault};
@@ -48,8 +48,8 @@ impl Form {
         ensures { result ≡ tag self }
     {
         match self {
-            Form::Addresses(_) => 0x03,
-            Form::Numbers => 0x02,
+            Form::Addresses(_) => tag::BIT_STRING,
+            Form::Numbers => tag::INTEGER,
         }
     }
 
@@ -155,7 +155,7 @@ fn read_points(element: &Element<'_>, form: Form) -> Result<(u128, u128), SetFau
             None => Err(SetFault::own(Rule::Value, element.place)),
         };
     }
-    if element.tag != 0x30 {
+    if element.tag != tag::SEQUENCE {
         return Err(SetFault::own(Rule::Structure, element.place));
     }
     read_pair(element.content, form)

@@ -10,6 +10,7 @@ ghost use Rattle.element.specs.Reading.{octets_of};
 ghost use Rattle.layout.specs.Expecting.{told_by};
 ghost use Rattle.families.specs.Families.{family_named, follows, family_after, family_seen};
 
+use content::tag;
 use element::Part;
 use family::Family;
 use fault::Rule;
@@ -44,7 +45,7 @@ pub fn family_after<'a, F: LayerFault>(
     ensures value { told_by F.told family_seen result ≡ family_after F.layer before (octets_of content.entry) }
     ensures next { IfOk result (λ p. follows before p.0 ≡ true) }
 {
-    let (name, rest) = expect::<F>(content, 0x04)?;
+    let (name, rest) = expect::<F>(content, tag::OCTET_STRING)?;
     match family_named(name.content.octets) {
         Some(family) if follows(before, family) => Ok((family, rest)),
         _ => Err(F::own(Rule::Value, name.place)),

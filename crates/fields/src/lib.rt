@@ -12,6 +12,7 @@ ghost use Rattle.element.specs.Reading.{seen, octets_of};
 ghost use Rattle.layout.specs.Expecting.{told_by};
 ghost use Rattle.fields.specs.Fields.{both_of, moment_and, whole_seen, is_constant, is_number20, is_serial, whole_of, sequence_of, constant_of, number20_of, serial_of, as_number_of, whole_bits_of, time_in, time_of, gtime_of};
 
+use content::tag;
 use element::{Element, Part};
 use fault::Rule;
 use layout::{LayerFault, expect, next};
@@ -28,7 +29,7 @@ fn is_constant(content: &[u8], n: u8) -> bool
 pub fn constant_integer<'a, F: LayerFault>(input: Part<'a>, n: u8) -> Result<Part<'a>, F>
     ensures value { told_by F.told octets_of result ≡ constant_of F.layer n (octets_of input.entry) }
 {
-    let (element, rest) = expect::<F>(input, 0x02)?;
+    let (element, rest) = expect::<F>(input, tag::INTEGER)?;
     if !is_constant(element.content.octets, n) {
         return Err(F::own(Rule::Value, element.place));
     }
@@ -39,7 +40,7 @@ pub fn constant_integer<'a, F: LayerFault>(input: Part<'a>, n: u8) -> Result<Par
 pub fn as_number<'a, F: LayerFault>(input: Part<'a>) -> Result<(u32, Part<'a>), F>
     ensures value { told_by F.told (λ p. (p.0, octets_of p.1)) result ≡ as_number_of F.layer (octets_of input.entry) }
 {
-    let (element, rest) = expect::<F>(input, 0x02)?;
+    let (element, rest) = expect::<F>(input, tag::INTEGER)?;
     let Some(number) = entries::as_number(element.content.octets) else {
         return Err(F::own(Rule::Value, element.place));
     };
@@ -64,7 +65,7 @@ fn is_serial(content: &[u8]) -> bool
 pub fn number20<'a, F: LayerFault>(input: Part<'a>) -> Result<(Part<'a>, Part<'a>), F>
     ensures value { told_by F.told both_of result ≡ number20_of F.layer (octets_of input.entry) }
 {
-    let (element, rest) = expect::<F>(input, 0x02)?;
+    let (element, rest) = expect::<F>(input, tag::INTEGER)?;
     if !is_number20(element.content.octets) {
         return Err(F::own(Rule::Value, element.place));
     }
@@ -75,7 +76,7 @@ pub fn number20<'a, F: LayerFault>(input: Part<'a>) -> Result<(Part<'a>, Part<'a
 pub fn serial<'a, F: LayerFault>(input: Part<'a>) -> Result<(Part<'a>, Part<'a>), F>
     ensures value { told_by F.told both_of result ≡ serial_of F.layer (octets_of input.entry) }
 {
-    let (element, rest) = expect::<F>(input, 0x02)?;
+    let (element, rest) = expect::<F>(input, tag::INTEGER)?;
     if !is_serial(element.content.octets) {
         return Err(F::own(Rule::Value, element.place));
     }
@@ -86,7 +87,7 @@ pub fn serial<'a, F: LayerFault>(input: Part<'a>) -> Result<(Part<'a>, Part<'a>)
 pub fn whole_bits<'a, F: LayerFault>(input: Part<'a>) -> Result<(Part<'a>, Part<'a>), F>
     ensures value { told_by F.told both_of result ≡ whole_bits_of F.layer (octets_of input.entry) }
 {
-    let (element, rest) = expect::<F>(input, 0x03)?;
+    let (element, rest) = expect::<F>(input, tag::BIT_STRING)?;
     let content = element.content.octets;
     if content.is_empty() || content[0] != 0 {
         return Err(F::own(Rule::Value, element.place));
@@ -100,14 +101,14 @@ fn time_in<F: LayerFault>(element: &Element<'_>) -> Result<Moment, F>
 {
     let content = element.content.octets;
     let said = match element.tag {
-        0x17 => utc_time(content),
-        0x18 => generalized_time(content),
+        tag::UTC_TIME => utc_time(content),
+        tag::GENERALIZED_TIME => generalized_time(content),
         _ => return Err(F::own(Rule::Structure, element.place)),
     };
     let Some(moment) = said else {
         return Err(F::own(Rule::Value, element.place));
     };
-    if element.tag == 0x18 && moment.number() < 20_500_000_000_000 {
+    if element.tag == tag::GENERALIZED_TIME && moment.number() < 20_500_000_000_000 {
         return Err(F::own(Rule::Value, element.place));
     }
     Ok(moment)
@@ -126,7 +127,7 @@ pub fn time<'a, F: LayerFault>(input: Part<'a>) -> Result<(Moment, Part<'a>), F>
 pub fn gtime<'a, F: LayerFault>(input: Part<'a>) -> Result<(Moment, Part<'a>), F>
     ensures value { told_by F.told moment_and result ≡ gtime_of F.layer (octets_of input.entry) }
 {
-    let (element, rest) = expect::<F>(input, 0x18)?;
+    let (element, rest) = expect::<F>(input, tag::GENERALIZED_TIME)?;
     let Some(moment) = generalized_time(element.content.octets) else {
         return Err(F::own(Rule::Value, element.place));
     };
@@ -148,6 +149,6 @@ pub fn whole<'a, F: LayerFault>(
 pub fn sequence<'a, F: LayerFault>(input: Part<'a>) -> Result<(Part<'a>, Part<'a>), F>
     ensures value { told_by F.told both_of result ≡ sequence_of F.layer (octets_of input.entry) }
 {
-    let (all, _, rest) = whole::<F>(input, 0x30)?;
+    let (all, _, rest) = whole::<F>(input, tag::SEQUENCE)?;
     Ok((all, rest))
 }

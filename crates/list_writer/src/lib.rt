@@ -14,6 +14,7 @@ ghost use Rattle.entry_writer.specs.Areas.{laid_at};
 ghost use Rattle.list_writer.specs.Texts.{entries_text, list_text, list_written};
 ghost use Rattle.list_writer.specs.Laws.{ReadsAsList, ReadsBack, WrittenAgain, OneList};
 
+use content::tag;
 use element::{header_size, write_header};
 use entry_writer::WrittenResource;
 use fault::Rule;
@@ -57,7 +58,7 @@ pub fn write<P: WrittenResource>(list: &[Range<P>], area: &mut [u8]) -> Result<u
     if area.len() < header_size(size) + size {
         return Err(Rule::Area);
     }
-    let start = write_header(0x30, size, area)?;
+    let start = write_header(tag::SEQUENCE, size, area)?;
     write_entries(list, area, start);
     Ok(start + size)
 }

@@ -19,6 +19,7 @@ ghost use Rattle.layout.specs.Expecting.{told_by, part_of};
 ghost use Rattle.manifest.specs.Steps.{Stepped, Ended};
 ghost use Rattle.manifest.specs.Manifests.{front_seen, name_of, opened_of, digest_of, named_twice, listed, entries_of, sha256, algorithm_of, head_and, head_of, manifest_seen, body_of, manifest_of};
 
+use content::tag;
 use element::{Element, Part};
 use fault::Rule;
 use fields::{gtime, number20, whole_bits};
@@ -72,7 +73,7 @@ struct Stopped {
 fn read_name<'a>(input: Part<'a>) -> Result<(Element<'a>, Part<'a>), ContentFault>
     ensures value { told_by content_report part_of result ≡ name_of (octets_of input.entry) }
 {
-    let (element, rest) = expect::<ContentFault>(input, 0x16)?;
+    let (element, rest) = expect::<ContentFault>(input, tag::IA5_STRING)?;
     if !is_bare(element.content.octets) {
         return Err(ContentFault::own(Rule::Value, element.place));
     }
@@ -83,7 +84,7 @@ fn read_name<'a>(input: Part<'a>) -> Result<(Element<'a>, Part<'a>), ContentFaul
 fn read_front<'a>(input: Part<'a>) -> Result<Front<'a>, ContentFault>
     ensures value { told_by content_report front_seen result ≡ opened_of (octets_of input.entry) }
 {
-    let (entry, after) = expect::<ContentFault>(input, 0x30)?;
+    let (entry, after) = expect::<ContentFault>(input, tag::SEQUENCE)?;
     let (name, inner) = read_name(entry.content)?;
     Ok(Front { name, inner, after })
 }
@@ -195,7 +196,7 @@ fn is_sha256(content: &[u8]) -> bool
 fn read_algorithm<'a>(input: Part<'a>) -> Result<Part<'a>, ContentFault>
     ensures value { told_by content_report octets_of result ≡ algorithm_of (octets_of input.entry) }
 {
-    let (element, rest) = expect::<ContentFault>(input, 0x06)?;
+    let (element, rest) = expect::<ContentFault>(input, tag::OID)?;
     if !is_sha256(element.content.octets) {
         return Err(ContentFault::own(Rule::Value, element.place));
     }
@@ -232,7 +233,7 @@ fn read_body<'a>(
     ensures others { IfOk result (λ m. (drop m.count table.new ≡ drop m.count table.old) × (m.count ≤ length table.new)) }
 {
     let (head, rest) = read_head(content)?;
-    let (row, after) = expect::<ContentFault>(rest, 0x30)?;
+    let (row, after) = expect::<ContentFault>(rest, tag::SEQUENCE)?;
     let count = read_entries(row.content, table, spots)?;
     end::<ContentFault>(after)?;
     Ok(Manifest { head, count })
@@ -249,7 +250,7 @@ pub fn read_manifest<'a>(
     ensures value { told_by content_report (manifest_seen table.new) result ≡ manifest_of (octets_of input.entry) }
     ensures others { IfOk result (λ m. (drop m.count table.new ≡ drop m.count table.old) × (m.count ≤ length table.new)) }
 {
-    let (outer, after) = expect::<ContentFault>(input, 0x30)?;
+    let (outer, after) = expect::<ContentFault>(input, tag::SEQUENCE)?;
     let manifest = read_body(outer.content, table, spots)?;
     end::<ContentFault>(after)?;
     Ok(manifest)

@@ -18,6 +18,7 @@ ghost use Rattle.entries.specs.Kinds.{v6_entry};
 ghost use Rattle.resources.specs.Values.{family_of, head_of, no_more, last_of, second_of, second_ranges, families_of, families_v4, families_v6, addresses_of, addresses_v4, addresses_v6, address_tables, asn_of, asn_ranges, asn_tables, alone, fresh_tables};
 ghost use Rattle.resources.specs.Meaning.{Tells, AddressesSay, AsnSays, addresses_listed, asn_listed, AddressListIn, AsnListIn, EmptyRefused};
 
+use content::tag;
 use element::{Element, Part};
 use entries::Resource;
 use fault::{Rule, SetFault};
@@ -88,8 +89,8 @@ fn allows(may: May, tag: u8) -> bool
     ensures { result ≡ allowed may tag }
 {
     match may {
-        May::List => tag == 0x30,
-        May::Inherit => tag == 0x05,
+        May::List => tag == tag::SEQUENCE,
+        May::Inherit => tag == tag::NULL,
         May::Either => true,
     }
 }
@@ -99,7 +100,7 @@ fn choice<'a>(input: Part<'a>, may: May) -> Result<(Element<'a>, Part<'a>), SetF
     ensures value { told_by set_report part_of result ≡ choice_of may (octets_of input.entry) }
 {
     let (element, rest) = next::<SetFault>(input)?;
-    if element.tag != 0x05 && element.tag != 0x30 {
+    if element.tag != tag::NULL && element.tag != tag::SEQUENCE {
         return Err(SetFault::own(Rule::Structure, element.place));
     }
     if !allows(may, element.tag) {
@@ -116,7 +117,7 @@ fn held_in<P: Resource>(
     ensures value { reported set_report result ≡ held_of P.rank P.entry (seen element.now) }
     ensures table { table.new ≡ kept (ranges_in P.rank P.entry (seen element.now)) table.old }
 {
-    if element.tag == 0x05 {
+    if element.tag == tag::NULL {
         return Ok(Held::Inherited);
     }
     if element.content.octets.is_empty() {
@@ -158,7 +159,7 @@ fn family_number(octets: &[u8]) -> u8
 fn head<'a>(content: Part<'a>, before: u8) -> Result<(u8, Part<'a>), SetFault>
     ensures value { told_by set_report (λ h. (h.0, octets_of h.1)) result ≡ head_of before (octets_of content.entry) }
 {
-    let (name, rest) = expect::<SetFault>(content, 0x04)?;
+    let (name, rest) = expect::<SetFault>(content, tag::OCTET_STRING)?;
     let number = family_number(name.content.octets);
     if number <= before {
         return Err(SetFault::own(Rule::Value, name.place));
@@ -173,7 +174,7 @@ fn no_more(rest: Part<'_>) -> Result<(), SetFault>
     if rest.octets.is_empty() {
         return Ok(());
     }
-    let (family, _) = expect::<SetFault>(rest, 0x30)?;
+    let (family, _) = expect::<SetFault>(rest, tag::SEQUENCE)?;
     head(family.content, 2)?;
     Ok(())
 }
@@ -201,7 +202,7 @@ fn second(rest: Part<'_>, may: May, v6: &mut [Range<V6>; MOST]) -> Result<Held, 
     if rest.octets.is_empty() {
         return Ok(Held::Absent);
     }
-    let (family, rest) = expect::<SetFault>(rest, 0x30)?;
+    let (family, rest) = expect::<SetFault>(rest, tag::SEQUENCE)?;
     let (_, content) = head(family.content, 1)?;
     last_family(content, rest, may, v6)
 }
@@ -217,7 +218,7 @@ fn families(
     ensures v4 { v4.new ≡ kept (families_v4 may (octets_of content.entry)) v4.old }
     ensures v6 { v6.new ≡ kept (families_v6 may (octets_of content.entry)) v6.old }
 {
-    let (family, rest) = expect::<SetFault>(content, 0x30)?;
+    let (family, rest) = expect::<SetFault>(content, tag::SEQUENCE)?;
     let (number, inner) = head(family.content, 0)?;
     if number == 2 {
         let held = last_family(inner, rest, may, v6)?;
@@ -245,7 +246,7 @@ fn addresses_in(
     ensures v4 { v4.new ≡ kept (addresses_v4 may (octets_of value.entry)) v4.old }
     ensures v6 { v6.new ≡ kept (addresses_v6 may (octets_of value.entry)) v6.old }
 {
-    let (outer, rest) = expect::<SetFault>(value, 0x30)?;
+    let (outer, rest) = expect::<SetFault>(value, tag::SEQUENCE)?;
     let addresses = families(outer.content, may, v4, v6)?;
     end::<SetFault>(rest)?;
     Ok(addresses)
@@ -256,8 +257,8 @@ fn asn_in(value: Part<'_>, may: May, asn: &mut [Range<Asn>; MOST]) -> Result<Hel
     ensures value { reported set_report result ≡ asn_of may (octets_of value.entry) }
     ensures table { asn.new ≡ kept (asn_ranges may (octets_of value.entry)) asn.old }
 {
-    let (outer, rest) = expect::<SetFault>(value, 0x30)?;
-    let (numbers, after) = expect::<SetFault>(outer.content, 0xa0)?;
+    let (outer, rest) = expect::<SetFault>(value, tag::SEQUENCE)?;
+    let (numbers, after) = expect::<SetFault>(outer.content, tag::EXPLICIT_0)?;
     let held = read_part(numbers.content, may, asn)?;
     end::<SetFault>(after)?;
     end::<SetFault>(rest)?;

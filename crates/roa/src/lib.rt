@@ -16,7 +16,7 @@ ghost use Rattle.layout.specs.Rows.{rows_of};
 ghost use Rattle.roa.specs.Roas.{family_rows, family_step, nothing_known, families_of, body_of, roa_of, roa_seen, known_seen, most_rows};
 ghost use Rattle.roa.specs.Rows.{top_of, prefix_of, prefix_seen, prefix_at, max_of, max_at, row_of, row_in, row_step, some_rows};
 
-use content::read_bit_string;
+use content::{read_bit_string, tag};
 use element::{Element, Part, read};
 use families::family_after;
 use fault::Rule;
@@ -82,7 +82,7 @@ fn prefix_in(content: &[u8], family: Family) -> Option<Prefix>
 fn read_prefix<'a>(content: Part<'a>, family: Family) -> Result<(Prefix, Part<'a>), ContentFault>
     ensures value { told_by content_report prefix_seen result ≡ prefix_at family (octets_of content.entry) }
 {
-    let (bits, rest) = expect::<ContentFault>(content, 0x03)?;
+    let (bits, rest) = expect::<ContentFault>(content, tag::BIT_STRING)?;
     let Some(prefix) = prefix_in(bits.content.octets, family) else {
         return Err(ContentFault::own(Rule::Value, bits.place));
     };
@@ -104,7 +104,7 @@ fn read_max(rest: Part<'_>, prefix: Prefix) -> Result<Option<u8>, ContentFault>
     if rest.octets.is_empty() {
         return Ok(None);
     }
-    let (number, rest) = expect::<ContentFault>(rest, 0x02)?;
+    let (number, rest) = expect::<ContentFault>(rest, tag::INTEGER)?;
     let Some(max) = max_in(number.content.octets, prefix.length, prefix.family.width()) else {
         return Err(ContentFault::own(Rule::Value, number.place));
     };
@@ -127,7 +127,7 @@ fn counted_row(row: &Element<'_>, family: Family, before: usize) -> Result<RoaRo
     ensures value { reported content_report result ≡ row_in family before (seen row.now) }
     ensures room { OnOk result (before < 256) }
 {
-    if row.tag != 0x30 {
+    if row.tag != tag::SEQUENCE {
         return Err(ContentFault::own(Rule::Structure, row.place));
     }
     if before == FAMILY_ROWS {
@@ -204,7 +204,7 @@ fn read_family_rows(
     ensures value { told_by content_report (λ n. take n table.new) result ≡ family_rows family (take base table.old) (octets_of content.entry) }
     ensures past { IfOk result (λ n. (base ≤ n) × (n ≤ base + 256) × (drop n table.new ≡ drop n table.old)) }
 {
-    let (rows, rest) = expect::<ContentFault>(content, 0x30)?;
+    let (rows, rest) = expect::<ContentFault>(content, tag::SEQUENCE)?;
     let count = read_some(rows.content, family, base, table)?;
     end::<ContentFault>(rest)?;
     Ok(count)
@@ -221,7 +221,7 @@ fn read_family(
     ensures value { told_by content_report (λ p. known_seen table.new (Some p.0, p.1)) result ≡ family_step (known_seen table.old (before, count)) (seen family.now) }
     ensures past { IfOk result (λ p. (p.1 ≤ most_rows (Some p.0)) × (count ≤ p.1) × (drop p.1 table.new ≡ drop p.1 table.old)) }
 {
-    if family.tag != 0x30 {
+    if family.tag != tag::SEQUENCE {
         return Err(ContentFault::own(Rule::Structure, family.place));
     }
     let (named, rest) = family_after::<ContentFault>(family.content, before)?;
@@ -270,7 +270,7 @@ fn read_body(content: Part<'_>, table: &mut [RoaRow; ROWS]) -> Result<Roa, Conte
     ensures past { IfOk result (λ a. (a.count ≤ 512) × (drop a.count table.new ≡ drop a.count table.old)) }
 {
     let (asn, rest) = fields::as_number::<ContentFault>(content)?;
-    let (families, rest) = expect::<ContentFault>(rest, 0x30)?;
+    let (families, rest) = expect::<ContentFault>(rest, tag::SEQUENCE)?;
     let (_, count) = read_families(families.content, table)?;
     end::<ContentFault>(rest)?;
     Ok(Roa { asn, count })
@@ -282,7 +282,7 @@ pub fn read_roa(content: Part<'_>, rows: &mut [RoaRow; ROWS]) -> Result<Roa, Con
     ensures value { told_by content_report (roa_seen rows.new) result ≡ roa_of (octets_of content.entry) }
     ensures past { IfOk result (λ a. (a.count ≤ 512) × (drop a.count rows.new ≡ drop a.count rows.old)) }
 {
-    let (outer, rest) = expect::<ContentFault>(content, 0x30)?;
+    let (outer, rest) = expect::<ContentFault>(content, tag::SEQUENCE)?;
     let roa = read_body(outer.content, rows)?;
     end::<ContentFault>(rest)?;
     Ok(roa)

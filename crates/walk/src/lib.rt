@@ -10,6 +10,7 @@ ghost use Rattle.std.specs.Prelude.{◌≡◌, ◌+◌, ◌-◌, ◌<◌, ◌≤
 ghost use Rattle.walk.specs.declared.WalkError.TheVariants.{Fault, Memory};
 ghost use Rattle.walk.specs.Steps.{opens, limit_of, node_seen, Stepped};
 
+use content::tag;
 use element::{Element, Part, read};
 use fault::ElementFault;
 use std::alloc::{AllocError, AllocFailed, Global};
@@ -55,7 +56,7 @@ pub struct Walk<'a> {
 pub fn is_constructed(tag: u8) -> bool
     ensures { result ≡ opens tag }
 {
-    tag == 0x30 || tag == 0x31 || (tag >= 0x40 && tag / 0x20 % 2 != 0)
+    tag == tag::SEQUENCE || tag == tag::SET || (tag >= 0x40 && tag / 0x20 % 2 != 0)
 }
 
 impl<'a> Walk<'a> {

@@ -11,6 +11,7 @@ ghost use Rattle.element.specs.Reading.{seen, octets_of};
 ghost use Rattle.layout.specs.Expecting.{told_by, part_of};
 ghost use Rattle.x509.specs.Shared.{is_true, opened_of, value_octets, is_key, key_after, seal_of};
 
+use content::tag;
 use element::{Element, Part};
 use fault::Rule;
 use fields::{sequence, whole_bits};
@@ -20,10 +21,10 @@ use layout::{LayerFault, end, expect, next};
 pub fn open<'a, F: LayerFault>(extension: &Element<'a>) -> Result<(Element<'a>, Part<'a>), F>
     ensures value { told_by F.told part_of result ≡ opened_of F.layer (seen extension.now) }
 {
-    if extension.tag != 0x30 {
+    if extension.tag != tag::SEQUENCE {
         return Err(F::own(Rule::Structure, extension.place));
     }
-    expect::<F>(extension.content, 0x06)
+    expect::<F>(extension.content, tag::OID)
 }
 
 // Whether the content of a BOOLEAN is true.
@@ -42,13 +43,13 @@ pub fn value_octets<'a, F: LayerFault>(
     ensures value { told_by F.told part_of result ≡ value_octets F.layer critical (octets_of rest.entry) }
 {
     let (element, after) = next::<F>(rest)?;
-    if element.tag == 0x01 {
+    if element.tag == tag::BOOLEAN {
         if critical && is_true(element.content.octets) {
-            return expect::<F>(after, 0x04);
+            return expect::<F>(after, tag::OCTET_STRING);
         }
         return Err(F::own(Rule::Value, element.place));
     }
-    if element.tag != 0x04 {
+    if element.tag != tag::OCTET_STRING {
         return Err(F::own(Rule::Structure, element.place));
     }
     if critical {
