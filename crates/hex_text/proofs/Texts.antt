@@ -1,9 +1,9 @@
 -- Octets and digits, either way: the laws that the contracts state, and the steps of the loops. Assumes nothing.
 use Rattle.std.proofs.Common.{◌≡◌, ℕ, suc, ◌+◌, ◌-◌, ◌*◌, ◌/◌, ◌%◌, ◌<◌, ◌≤◌, Bool, true, false, ◌&&◌, eqb, List, [], ◌∷◌, ◌++◌, map, length, get_or, take, drop, is_some, Some, None, Option, sym, refl, ap, ◌∙◌, arith}
-use Rattle.std.specs.List.{AllByRecursion}
+use Rattle.std.specs.List.{AllByRecursion, list_all}
 use Rattle.std.specs.Char.{to_ascii_lowercase}
 use Rattle.std.proofs.lemmas.Bool.Decides.{nat_tests}
-use Rattle.std.proofs.lemmas.List.{append_assoc, append-nil, take_rest, drop_more, drop_all, at_drop_more}
+use Rattle.std.proofs.lemmas.List.{append_assoc, append-nil, take_rest, drop_more, drop_all}
 use Rattle.hex_text.specs.Digits.{nibble_of, paired, octet_of, before, unhex, all_digits, digit_of, hex_text}
 use Rattle.hex_text.specs.Laws.{ReadsBack, WritesBack}
 
@@ -146,14 +146,10 @@ text_more was then xs all i l p e =
 pub text_all : (was xs all : List ℕ) (i : ℕ) → length xs ≤ i → was ++ hex_text (drop i xs) ≡ all → was ≡ all
 text_all was xs all i l e = sym (append-nil was) ∙ ap (λ (t : List ℕ). was ++ hex_text t) (sym (drop_all i xs l)) ∙ e
 
--- a character that is no digit, and one that is
-pub digits_refused : (s : List ℕ) (i : ℕ) (o : Option ℕ) → i < length s → all_digits (drop i s) ≡ all_digits s → o ≡ nibble_of (get_or s i 0) → is_some o ≡ false → false ≡ all_digits s
-digits_refused s i o l inv e n =
-    sym (ap (λ (t : Bool). t && all_digits (drop (i + 1) s)) (ap is_some (sym e) ∙ n)) ∙ sym (at_drop_more all_digits s i 0 l) ∙ inv
-
-pub digits_more : (s : List ℕ) (i : ℕ) (o : Option ℕ) → i < length s → all_digits (drop i s) ≡ all_digits s → o ≡ nibble_of (get_or s i 0) → is_some o ≡ true → all_digits (drop (i + 1) s) ≡ all_digits s
-digits_more s i o l inv e n =
-    sym (ap (λ (t : Bool). t && all_digits (drop (i + 1) s)) (ap is_some (sym e) ∙ n)) ∙ sym (at_drop_more all_digits s i 0 l) ∙ inv
+-- whether each character is a digit, in the words of the library
+pub digits_listed : (s : List ℕ) → all_digits s ≡ list_all (λ c. is_some (nibble_of c)) s
+digits_listed [] = refl
+digits_listed (c ∷ s) = ap (λ (b : Bool). is_some (nibble_of c) && b) (digits_listed s)
 
 pub reads_by : (s : List ℕ) (r : Bool) → r ≡ all_digits s → is_some (unhex s) ≡ (eqb (length s % 2) 0 && r)
 reads_by s r e = reads s ∙ ap (λ (t : Bool). eqb (length s % 2) 0 && t) (sym e)

@@ -1,9 +1,10 @@
 // Octets as hexadecimal text, two digits to an octet.
 //
 // `decode` gives the octets that some digits of either case write, and none where a digit is missing or is none; `push_octets` appends the lower-case
-// digits of some octets to a text; `all_digits` says whether each character is a digit, `nibble` what a digit is worth, and `octet` what two are. Each answers
-// what `unhex`, `hexText`, `allDigits`, `nibbleOf` and `octetOf` of specs/Digits.antt define. The contracts of `decode` and `push_octets` also say that nothing is
-// lost: what is written is read as the same octets, and what is read is written as the same digits in lower case. The crate rests on `std` alone.
+// digits of some octets to a text; `all_digits` says whether each character is a digit, `nibble` what a digit is worth, `octet` what two are, and `digit`
+// is the digit of a value. Each answers what `unhex`, `hex_text`, `all_digits`, `nibble_of`, `octet_of` and `digit_of` of specs/Digits.antt define. The
+// contracts of `decode` and `push_octets` also say that nothing is lost: what is written is read as the same octets, and what is read is written as the
+// same digits in lower case. The crate rests on `std` alone.
 #![tactic(auto)]
 
 ghost use Rattle.std.specs.Prelude.{◌≡◌, ◌/◌, ◌%◌, ◌<◌, ◌&&◌, [], ◌∷◌, ◌++◌, length, is_some, IfSome, IfOk, vec_items, string_bytes, OnOk, ◌==◌};
@@ -59,16 +60,11 @@ pub fn all_digits(digits: &[u8]) -> bool
     ensures value { result ≡ all_digits digits.now }
     ensures reads { is_some (unhex digits.now) ≡ (length digits.now % 2 == 0 && result) }
 {
-    for c in digits {
-        if nibble(*c).is_none() {
-            return false;
-        }
-    }
-    true
+    digits.iter().all(|c| nibble(*c).is_some())
 }
 
 // The lower-case digit of a value.
-fn digit(value: u8) -> char
+pub fn digit(value: u8) -> char
     requires { value < 16 }
     ensures value { result ≡ digit_of value }
     ensures bound { result < 128 }

@@ -137,11 +137,6 @@ digit_none most n s i l e inv =
     sym (from_none most (drop (i + 1) s)) ∙ ap (λ (o : Option ℕ). number_from most o (drop (i + 1) s)) e
     ∙ sym (at_drop_more (number_from most (Some n)) s i 0 l) ∙ inv
 
-pub digit_more : (most n m : ℕ) (s : List ℕ) (i : ℕ) → i < length s → Some m ≡ grown most (Some n) (get_or s i 0)
-    → number_from most (Some n) (drop i s) ≡ number_from most (Some 0) s → number_from most (Some m) (drop (i + 1) s) ≡ number_from most (Some 0) s
-digit_more most n m s i l e inv =
-    ap (λ (o : Option ℕ). number_from most o (drop (i + 1) s)) e ∙ sym (at_drop_more (number_from most (Some n)) s i 0 l) ∙ inv
-
 -- the two ways of a word
 pub not_plain : (most : ℕ) (w : List ℕ) → false ≡ plain w → None ≡ number_of most w
 not_plain most w e = ap (λ (b : Bool). cond b (number_from most (Some 0) w) None) e

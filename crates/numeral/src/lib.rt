@@ -13,14 +13,16 @@ fn grow(number: u64, digit: u8, most: u64) -> Option<u64>
     ensures value { result ≡ grown most (Some number) digit }
     ensures bound { IfSome result (λ n. n ≤ most) }
 {
-    if digit < b'0' || digit > b'9' {
+    if !digit.is_ascii_digit() {
         return None;
     }
-    let next = number as u128 * 10 + (digit - b'0') as u128;
-    if next > most as u128 {
+    let next = number
+        .checked_mul(10)?
+        .checked_add(u64::from(digit - b'0'))?;
+    if next > most {
         return None;
     }
-    Some(next as u64)
+    Some(next)
 }
 
 // The number that digits write, of which there may be none.
@@ -29,10 +31,7 @@ fn read_digits(digits: &[u8], most: u64) -> Option<u64>
 {
     let mut number = 0;
     for digit in digits {
-        match grow(number, *digit, most) {
-            Some(next) => number = next,
-            None => return None,
-        }
+        number = grow(number, *digit, most)?;
     }
     Some(number)
 }

@@ -1,8 +1,12 @@
 -- The pieces of a text: they give it back, and pieces with marks between them are read as these. Assumes nothing.
-use Rattle.std.proofs.Common.{◌≡◌, ℕ, suc, ◌+◌, ◌-◌, ◌<◌, ◌≤◌, Bool, true, false, cond, not, ◌&&◌, eqb, List, [], ◌∷◌, ◌++◌, length, get_or, take, drop, Some, None, Option, sym, refl, ap, ◌∙◌, subst, inl, inr, arith}
-use Rattle.std.specs.List.{AllByRecursion}
-use Rattle.std.proofs.lemmas.List.{at_drop_more, at_drop_all, drop_more, drop_all, take_rest}
-use Rattle.std.proofs.lemmas.Bool.{cases_Bool, eqb-true, eq-eqb, ne_eqb}
+use Rattle.std.proofs.Common.{◌≡◌, ℕ, suc, ◌+◌, ◌-◌, ◌<◌, ◌≤◌, Bool, true, false, cond, not, ◌&&◌, eqb, List, [], ◌∷◌, ◌++◌, length, take, drop, Some, None, Option, sym, refl, ap, ◌∙◌, subst, inl, inr, arith}
+use Rattle.std.specs.Prelude.{nat_eq, nat_lt}
+use Rattle.std.specs.Option.{unwrap_or}
+use Rattle.std.proofs.lemmas.Bool.Decides.{nat_tests}
+use Rattle.std.specs.List.{AllByRecursion, position_or_len}
+use Rattle.std.proofs.lemmas.List.Recursion.{is_position_or_len}
+use Rattle.std.proofs.lemmas.List.{drop_more, drop_all, take_rest}
+use Rattle.std.proofs.lemmas.Bool.{cases_Bool, eqb-true, eq-eqb}
 use Rattle.pieces.specs.Marks.{lengthened, pieces_of, joined, lacking, piece_end, pieces_after, pieces_past, take_piece, beside, and_then, read_next}
 
 module _ (m : ℕ) where
@@ -91,21 +95,21 @@ module _ (m : ℕ) where
   pub past_none : (s : List ℕ) (n : ℕ) → length s ≤ n → [] ≡ pieces_past m n s
   past_none s n l = sym (ap (pieces_after m) (drop_all n s l))
 
-  -- the steps of the loop that looks for the mark
-  pub end_found : (s : List ℕ) (i : ℕ) → i < length s → get_or s i 0 ≡ m → i + piece_end m (drop i s) ≡ piece_end m s → i ≡ piece_end m s
-  end_found s i l e inv =
-      let a : piece_end m (drop i s) ≡ cond (eqb (get_or s i 0) m) 0 (suc (piece_end m (drop (i + 1) s))) = at_drop_more (piece_end m) s i 0 l in
-      let b : piece_end m (drop i s) ≡ 0 = a ∙ ap (λ (t : Bool). cond t 0 (suc (piece_end m (drop (i + 1) s)))) (eq-eqb (get_or s i 0) m e) in
-      omega arith
+  -- where the first piece ends, in the words of the library
+  pub end_position : (s : List ℕ) → piece_end m s ≡ position_or_len (λ c. nat_eq c m) s
+  end_position s = is_position_or_len (piece_end m) (λ c. nat_eq c m) refl (λ x xs. ap (λ n. cond (eqb x m) 0 n) (omega arith)) s
 
-  pub end_more : (s : List ℕ) (i : ℕ) → i < length s → (get_or s i 0 ≡ m → ⊥) → i + piece_end m (drop i s) ≡ piece_end m s → i + 1 + piece_end m (drop (i + 1) s) ≡ piece_end m s
-  end_more s i l e inv =
-      let a : piece_end m (drop i s) ≡ cond (eqb (get_or s i 0) m) 0 (suc (piece_end m (drop (i + 1) s))) = at_drop_more (piece_end m) s i 0 l in
-      let b : piece_end m (drop i s) ≡ suc (piece_end m (drop (i + 1) s)) = a ∙ ap (λ (t : Bool). cond t 0 (suc (piece_end m (drop (i + 1) s)))) (ne_eqb (get_or s i 0) m e) in
-      omega arith
+  end_bound : (s : List ℕ) → piece_end m s ≤ length s
+  end_bound [] = omega arith
+  end_bound (c ∷ s) = let h : piece_end m s ≤ length s = end_bound s in grind arith
 
-  pub end_all : (s : List ℕ) (i : ℕ) → length s ≤ i → i ≤ length s → i + piece_end m (drop i s) ≡ piece_end m s → length s ≡ piece_end m s
-  end_all s i l h inv = let a : piece_end m (drop i s) ≡ 0 = at_drop_all (piece_end m) s i l in omega arith
+  pub end_from_position :
+      (s : List ℕ) (o : Option ℕ) → o ≡ cond (nat_lt (position_or_len (λ c. nat_eq c m) s) (length s)) (Some (position_or_len (λ c. nat_eq c m) s)) None
+      → unwrap_or o (length s) ≡ piece_end m s
+  end_from_position s o h =
+      let e : piece_end m s ≡ position_or_len (λ c. nat_eq c m) s = end_position s in
+      let b : piece_end m s ≤ length s = end_bound s in
+      grind (arith, nat_tests)
 
   -- the next piece
   pub next_piece : (s : List ℕ) (n : ℕ) (ws : List (List ℕ)) → n ≡ piece_end m s → ws ≡ pieces_past m n s → Some (take (n - 0) s, ws) ≡ take_piece (pieces_of m s)

@@ -16,12 +16,7 @@ fn piece_end(s: &[u8], mark: u8) -> usize
     ensures value { result ≡ piece_end mark s.now }
     ensures bound { result ≤ length s.now }
 {
-    for (i, c) in s.iter().enumerate() {
-        if *c == mark {
-            return i;
-        }
-    }
-    s.len()
+    s.iter().position(|c| *c == mark).unwrap_or(s.len())
 }
 
 // What follows the mark that ends a piece.
@@ -59,9 +54,7 @@ impl<'a> Pieces<'a> {
     pub fn next(&mut self) -> Option<&'a [u8]>
         ensures { beside (λ x. x.now) result (left self.new) ≡ take_piece (left self.old) }
     {
-        let Some(rest) = self.rest else {
-            return None;
-        };
+        let rest = self.rest?;
         let end = piece_end(rest, self.mark);
         self.rest = past(rest, end);
         Some(&rest[0..end])

@@ -1,14 +1,12 @@
-use Rattle.std.proofs.Common.{arith}
-use Rattle.pieces.proofs.Splits.{end_found, end_more, end_all}
+use Rattle.std.proofs.Common.{nat_eq, ◌∙◌, rules, tests}
+use Rattle.std.proofs.lemmas.Iterator.{YieldsList-from_slice}
+use Rattle.std.proofs.lemmas.Iterator.Search.{position_from_yields_List}
+use Rattle.pieces.proofs.Splits.{end_from_position}
 use Rattle.pieces.proofs.piece_end.Goals as goal
 
-pub returns-then-c-mark : goal.returns-then-c-mark
-returns-then-c-mark c =
-    record { value = end_found c.args.mark c.args.s.now c.loop-i.i c.loop-i-test.true c.if-c-mark.true c.loop-i.invariant; bound = c.loop-i.auto.i-end }
-
-pub loop-i-preserved : goal.loop-i-preserved
-loop-i-preserved c = end_more c.args.mark c.args.s.now c.loop-i.i c.loop-i-test.true c.if-c-mark.false c.loop-i.invariant
-
-pub returns : goal.returns
-returns c =
-    record { value = end_all c.args.mark c.args.s.now c.loop-i.i c.loop-i-test.false c.loop-i.auto.i-end c.loop-i.invariant; bound = omega arith }
+pub returns-clause-value : goal.returns-clause-value
+returns-clause-value c =
+    let s = c.args.s.now in
+    let m = c.args.mark in
+    let found = position_from_yields_List (λ x. nat_eq x m) _ _ c.position.result c.position.ensures.ran (YieldsList-from_slice s c.iter.ensures.rest) (λ x b q k. search (rules, tests)) in
+    c.unwrap_or.ensures ∙ end_from_position m s c.position.result found
