@@ -1,6 +1,8 @@
 -- What the parts of an entry are as octets. Assumes nothing.
-use Rattle.std.proofs.Common.{◌≡◌, ℕ, zero, suc, ◌+◌, ◌-◌, ◌*◌, ◌/◌, ◌%◌, ◌^◌, ◌<◌, ◌≤◌, true, false, w64, List, [], ◌∷◌, ◌++◌, length, get_or, take, drop, sym, refl, ap, ◌∙◌, pow-suc, arith, length-append}
+use Rattle.std.proofs.Common.{◌≡◌, ℕ, zero, suc, ◌+◌, ◌-◌, ◌*◌, ◌/◌, ◌%◌, ◌^◌, ◌<◌, ◌≤◌, true, false, w64, List, [], ◌∷◌, ◌++◌, length, get_or, take, drop, sym, refl, ap, ◌∙◌, pow-suc, pow_mono, inl, inr, arith, length-append}
 use Rattle.std.proofs.Math.Nat.{div-div-eq-div-mul}
+use Rattle.std.proofs.lemmas.Bool.{cases_lt}
+use Rattle.std.proofs.lemmas.Bool.Decides.{nat_tests}
 use Rattle.std.proofs.lemmas.List.{take_more, take_all}
 use Rattle.std.specs.Int.{byte_at, bytes_high_first, to_be_bytes}
 use Rattle.family.specs.declared.Family.{Family}
@@ -14,6 +16,34 @@ use Rattle.entry_text.proofs.Addresses.{content as bits, halves_length, text_pre
 use Rattle.entry_text.proofs.AsNumbers.{pair_length, text_one, text_more}
 
 -- ---- numbers
+
+-- where m is how many bits a number has, it is below 2 ^ k where they are k at most
+bits_within : (k m a : ℕ) → 2 ^ m ≤ 2 * a + 1 → a < 2 ^ k → m ≤ k
+bits_within k m a low h =
+    elim (cases_lt k m) [
+      | inl l ↦ (let p = pow_mono {i = suc k} {j = m} (omega arith) in absurd (omega (arith, p, pow-suc 2 k)))
+      | inr r ↦ r
+    ]
+
+bits_past : (k m a : ℕ) → a < 2 ^ m → 2 ^ k ≤ a → k < m
+bits_past k m a high h =
+    elim (cases_lt k m) [
+      | inl l ↦ l
+      | inr r ↦ (let p = pow_mono {i = m} {j = k} r in absurd (omega (arith, p)))
+    ]
+
+pub size_is : (a m : ℕ) → a < 2 ^ m → 2 ^ m ≤ 2 * a + 1 → a < 2 ^ 32 → 1 + m / 8 ≡ number_size a
+size_is a m high low fits =
+    let w = bits_within 32 m a low fits in
+    let w7 = bits_within 7 m a low in
+    let w15 = bits_within 15 m a low in
+    let w23 = bits_within 23 m a low in
+    let w31 = bits_within 31 m a low in
+    let p7 = bits_past 7 m a high in
+    let p15 = bits_past 15 m a high in
+    let p23 = bits_past 23 m a high in
+    let p31 = bits_past 31 m a high in
+    grind (arith, nat_tests)
 
 next_byte : (k n : ℕ) → byte_at k (n / 256) ≡ byte_at (suc k) n
 next_byte zero n = refl

@@ -90,22 +90,13 @@ fn pair(first: Text, last: Text) -> Text
     element(0x30, both.as_slice())
 }
 
-// How many octets the INTEGER of a number has.
+// How many octets the INTEGER of a number has: its bits, and a zero before them.
 fn number_size(number: u32) -> usize
     ensures value { result ≡ number_size number }
     ensures most { result ≤ 5 }
 {
-    if number < 0x80 {
-        1
-    } else if number < 0x8000 {
-        2
-    } else if number < 0x80_0000 {
-        3
-    } else if number < 0x8000_0000 {
-        4
-    } else {
-        5
-    }
+    let bits = u32::BITS - number.leading_zeros();
+    1 + bits as usize / 8
 }
 
 // A number as an INTEGER.
