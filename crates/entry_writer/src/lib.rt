@@ -20,6 +20,7 @@ ghost use Rattle.entry_text.proofs.Families.{v4_laws, v6_laws};
 
 mod text;
 
+use content::tag;
 use entries::Resource;
 use family::Family;
 use points::{Asn, Point, V4, V6};
@@ -87,7 +88,7 @@ fn pair(first: Text, last: Text) -> Text
 {
     let mut both = first;
     both.extend(last.as_slice());
-    element(0x30, both.as_slice())
+    element(tag::SEQUENCE, both.as_slice())
 }
 
 // How many octets the INTEGER of a number has: its bits, and a zero before them.
@@ -104,7 +105,7 @@ fn integer(number: u32) -> Text
     ensures { result ≡ integer_text number }
 {
     let octets = u64::from(number).to_be_bytes();
-    element(0x02, &octets[8 - number_size(number)..])
+    element(tag::INTEGER, &octets[8 - number_size(number)..])
 }
 
 // The entry of the numbers from `first` to `last`.
@@ -127,7 +128,7 @@ fn bit_string(address: u128, bits: u32, family: Family) -> Text
     for i in 0..octet_count(bits) {
         content.extend(&[octet_at(address, bits, i, family)]);
     }
-    element(0x03, content.as_slice())
+    element(tag::BIT_STRING, content.as_slice())
 }
 
 // The entry of the addresses from `first` to `last`. The ends of a range that is no prefix are written without the first
