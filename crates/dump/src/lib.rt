@@ -6,7 +6,9 @@
 // the text longer than a fixed number of times its own length. It rests on `walk` and `content`.
 #![tactic(auto)]
 
-use content::{tag, BitString, Integer, Kind, read_bit_string, read_boolean, read_integer, read_oid};
+use content::{
+    BitString, Integer, Kind, read_bit_string, read_boolean, read_integer, read_oid, tag,
+};
 use hex_text::push_octets;
 use moment::{Moment, generalized_time, utc_time};
 use std::alloc::{AllocError, Global};
