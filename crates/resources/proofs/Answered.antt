@@ -1,5 +1,5 @@
 -- What the answers of the readers tell. Assumes nothing.
-use Rattle.std.proofs.Common.{◌≡◌, ℕ, false, eqb, ◌⊎◌, List, [], length, take, drop, Ok, Err, Result, sym, ap, ◌∙◌, subst, inl, inr, arith}
+use Rattle.std.proofs.Common.{◌≡◌, ℕ, false, eqb, List, [], length, take, drop, Some, None, Ok, Err, Result, sym, refl, ap, ◌∙◌, subst, inl, inr, arith}
 use Rattle.std.proofs.lemmas.List.{take-append-le, take_all}
 use Rattle.std.proofs.lemmas.Bool.{cond-false, ne_eqb}
 use Rattle.fault.specs.declared.Rule.TheVariants.{Value}
@@ -7,6 +7,8 @@ use Rattle.fault.specs.declared.Layer.TheVariants.{Set}
 use Rattle.fault.specs.declared.Report.{Report}
 use Rattle.fault.specs.declared.SetFault.{SetFault}
 use Rattle.fault.specs.Faults.{set_report, reported}
+use Rattle.family.specs.declared.Family.{Family}
+use Rattle.family.specs.declared.Family.TheVariants.{Ipv4, Ipv6}
 use Rattle.element.specs.Reading.{Seen, Octets}
 use Rattle.layout.specs.Expecting.{broken, then_read}
 use Rattle.points.specs.declared.V4.{V4}
@@ -24,7 +26,7 @@ use Rattle.resources.specs.declared.May.{May}
 use Rattle.resources.specs.declared.Tables.{Tables}
 use Rattle.resources.specs.Parts.{holds}
 use Rattle.resources.specs.Values.{last_of, families_of, addresses_of, addresses_v4, addresses_v6, asn_of, asn_ranges, asn_tables, address_tables}
-use Rattle.resources.specs.Meaning.{PartSays, AsnSays, Optional, AddressesSay, FamilyAt, Family, ListAt, AsnListIn, FamiliesListIn, AddressListIn, EmptyRefused, Tells, asn_listed, addresses_listed}
+use Rattle.resources.specs.Meaning.{PartSays, AsnSays, Optional, AddressesSay, FamilyAt, FamilySays, ListAt, AsnListIn, FamiliesListIn, AddressListIn, EmptyRefused, Tells, asn_listed, addresses_listed}
 use Rattle.resources.proofs.Steps.{not_ended, expect-is}
 use Rattle.resources.proofs.Says.{part-is, empty-refused}
 use Rattle.resources.proofs.Wholes.{then_at, asn_says, asn_is, addresses_say, addresses-are, at-is, second_read}
@@ -38,7 +40,7 @@ module _ {P : Type 0} (rank : P → ℕ) (entry : Seen → Result (Range P) Repo
   part_held m q (held.List place n) rs before s = ap (λ (k : ℕ). take k (kept rs before)) s.1 ∙ take-append-le (length rs) rs (drop (length rs) before) (omega arith) ∙ take_all (length rs) rs (omega arith)
 
   optional-held :
-      (m : May) (n : ℕ) (q : Octets) (h : Held) (rs before : List (Range P)) (after : Octets) → Optional rank entry m n q h rs after
+      (m : May) (n : Family) (q : Octets) (h : Held) (rs before : List (Range P)) (after : Octets) → Optional rank entry m n q h rs after
       → holds (kept rs before) [] h ≡ rs
   optional-held m n q held.Absent rs before after o = sym o.1
   optional-held m n q held.Inherited rs before after o = part_held m o.inner held.Inherited rs before o.part
@@ -71,8 +73,8 @@ addresses-tell :
 addresses-tell m q t (Ok a) e =
     let s = addresses_say m q a e in
     let f = s.families in
-    let i = optional-held v4_rank v4_entry m 1 (inside s.outer) a.v4 (addresses_v4 m q) t.v4 f.middle f.v4 in
-    let j = optional-held v6_rank v6_entry m 2 f.middle a.v6 (addresses_v6 m q) t.v6 f.after f.v6 in
+    let i = optional-held v4_rank v4_entry m Ipv4 (inside s.outer) a.v4 (addresses_v4 m q) t.v4 f.middle f.v4 in
+    let j = optional-held v6_rank v6_entry m Ipv6 f.middle a.v6 (addresses_v6 m q) t.v6 f.after f.v6 in
     let both : (addresses_v4 m q, addresses_v6 m q) ≡ addresses_listed (address_tables m q t) a =
     ap (λ (l : List (Range V4)). (l, addresses_v6 m q)) (sym i) ∙ ap (λ (l : List (Range V6)). (holds (kept (addresses_v4 m q) t.v4) [] a.v4, l)) (sym j) in (
       subst (λ (l : Both). AddressesSay m q a l) both s,
@@ -105,32 +107,30 @@ asn_empty m q r i e l none =
     i ∙ then_at _ outer ∙ then_at _ inner ∙ then_err _ p
 
 first-empty :
-    (m : May) (q : Octets) (e : Seen) (n : ℕ) (p after : Octets) → (n ≡ 1) ⊎ (n ≡ 2) → FamilyAt n q p after → ListAt p e
+    (m : May) (q : Octets) (e : Seen) (g : Family) (p after : Octets) → FamilyAt g q p after → ListAt p e
     → length e.content ≡ 0 → families_of m q ≡ broken Set Value e.place
-first-empty m q e n p after (inl one) f l none =
-    let g : FamilyAt 1 q p after = subst (λ (k : ℕ). FamilyAt k q p after) one f in
-    let a = at-is 1 0 q p after g (omega arith) (omega arith) in
+first-empty m q e Ipv4 p after f l none =
+    let a = at-is Ipv4 None q p after f refl in
     then_at _ a.0 ∙ then_at _ a.1 ∙ then_err _ (empty-refused v4_rank v4_entry m p e l.after l.next l.tagged none)
-first-empty m q e n p after (inr two) f l none =
-    let g : FamilyAt 2 q p after = subst (λ (k : ℕ). FamilyAt k q p after) two f in
-    let a = at-is 2 0 q p after g (omega arith) (omega arith) in
+first-empty m q e Ipv6 p after f l none =
+    let a = at-is Ipv6 None q p after f refl in
     let last : last_of m p after ≡ broken Set Value e.place = then_err _ (empty-refused v6_rank v6_entry m p e l.after l.next l.tagged none) in
     then_at _ a.0 ∙ then_at _ a.1 ∙ then_err _ last
 
 second_empty :
-    (m : May) (q : Octets) (e : Seen) (h : Held) (rs : List (Range V4)) (middle p after : Octets) → Family v4_rank v4_entry m 1 q h rs middle
-    → FamilyAt 2 middle p after → ListAt p e → length e.content ≡ 0 → families_of m q ≡ broken Set Value e.place
+    (m : May) (q : Octets) (e : Seen) (h : Held) (rs : List (Range V4)) (middle p after : Octets) → FamilySays v4_rank v4_entry m Ipv4 q h rs middle
+    → FamilyAt Ipv6 middle p after → ListAt p e → length e.content ≡ 0 → families_of m q ≡ broken Set Value e.place
 second_empty m q e h rs middle p after f g l none =
-    let a = at-is 1 0 q f.inner middle f.stands (omega arith) (omega arith) in
+    let a = at-is Ipv4 None q f.inner middle f.stands refl in
     let v4 = part-is v4_rank v4_entry m f.inner h rs f.part in
-    let b = at-is 2 1 middle p after g (omega arith) (omega arith) in
+    let b = at-is Ipv6 (Some Ipv4) middle p after g refl in
     let t : eqb (length middle.octets) 0 ≡ false = ne_eqb _ _ (not_ended middle g.family after g.first) in
     then_at _ a.0 ∙ then_at _ a.1 ∙ then_at _ v4.0
     ∙ then_err _ (cond-false (eqb (length middle.octets) 0) (Ok held.Absent) (second_read m middle) t
     ∙ then_at _ b.0 ∙ then_at _ b.1 ∙ then_err _ (empty-refused v6_rank v6_entry m p e l.after l.next l.tagged none))
 
 families_empty : (m : May) (q : Octets) (e : Seen) → FamiliesListIn m q e → length e.content ≡ 0 → families_of m q ≡ broken Set Value e.place
-families_empty m q e (inl x) none = first-empty m q e x.0 x.1 x.2 x.3 x.4 x.5 none
+families_empty m q e (inl x) none = first-empty m q e x.0 x.1 x.2 x.3 x.4 none
 families_empty m q e (inr x) none = second_empty m q e x.0 x.1 x.2 x.3 x.4 x.5 x.6 x.7 none
 
 pub addresses_empty : (m : May) (q : Octets) (r : Result Addresses Report) → r ≡ addresses_of m q → EmptyRefused (AddressListIn m q) r

@@ -1,12 +1,16 @@
 -- What the values of the two extensions say, and what reading them answers. Assumes nothing.
-use Rattle.std.proofs.Common.{◌≡◌, ℕ, ◌<◌, ◌≤◌, Bool, true, false, cond, ◌&&◌, eqb, leb, ◌⊎◌, List, [], ◌∷◌, length, Ok, Result, sym, refl, ap, ◌∙◌, subst, inl, inr, arith}
-use Rattle.std.proofs.lemmas.Bool.{cond-true, cond-false, eq-eqb, ne_eqb, eqb-true, eqb-false, leb-true, leb-false, and_parts, lt-leb}
-use Rattle.std.proofs.lemmas.Bool.Decides.{nat_tests}
+use Rattle.std.proofs.Common.{◌≡◌, ℕ, Bool, true, false, cond, eqb, ◌⊎◌, List, [], length, Some, None, Ok, Option, Result, sym, refl, ap, ◌∙◌, subst, inl, inr, arith}
+use Rattle.std.proofs.lemmas.Bool.{cond-true, cond-false, eq-eqb, ne_eqb, eqb-true}
+use Rattle.std.specs.Str.{bytes_eq}
+use Rattle.std.proofs.lemmas.Slice.Eq.{bytes_eq-Decides}
 use Rattle.fault.specs.declared.Rule.TheVariants.{Value}
 use Rattle.fault.specs.declared.Layer.TheVariants.{Set}
 use Rattle.fault.specs.declared.Report.{Report}
+use Rattle.family.specs.declared.Family.{Family}
+use Rattle.family.specs.declared.Family.TheVariants.{Ipv4, Ipv6}
 use Rattle.element.specs.Reading.{Seen, Octets}
 use Rattle.layout.specs.Expecting.{then_read, expect_of, end_of}
+use Rattle.families.specs.Families.{family_named, follows, in_order, family_after}
 use Rattle.points.specs.declared.V4.{V4}
 use Rattle.points.specs.declared.V6.{V6}
 use Rattle.points.specs.declared.Asn.{Asn}
@@ -19,9 +23,9 @@ use Rattle.resources.specs.declared.Held.TheVariants as held
 use Rattle.resources.specs.declared.Addresses.{Addresses}
 use Rattle.resources.specs.declared.May.{May}
 use Rattle.resources.specs.Parts.{read_by, read_part, ranges_of}
-use Rattle.resources.specs.Values.{family_of, head_of, further, no_more, last_of, second_of, second_ranges, v6_alone, v4_first, families_of, families_v4, v6_after, families_v6, addresses_of, addresses_v4, addresses_v6, asn_of, asn_ranges}
-use Rattle.resources.specs.Meaning.{Ended, PartSays, AsnSays, FamilyAt, Family, Optional, FamiliesSay, AddressesSay}
-use Rattle.resources.proofs.Steps.{then_ok, cond_not, not_ended, expect-ok, expect-is, end_ok, end_is}
+use Rattle.resources.specs.Values.{further, no_more, last_of, second_of, second_ranges, from_first, families_of, v4_first, families_v4, v6_from, families_v6, addresses_of, addresses_v4, addresses_v6, asn_of, asn_ranges}
+use Rattle.resources.specs.Meaning.{Ended, PartSays, AsnSays, name_of, FamilyAt, FamilySays, Optional, FamiliesSay, AddressesSay}
+use Rattle.resources.proofs.Steps.{then_ok, cond_ok, not_ended, expect-ok, expect-is, end_ok, end_is}
 use Rattle.resources.proofs.Forwards.{v4_forward, v6_forward, asn_forward}
 use Rattle.resources.proofs.Says.{part_says, part-is}
 
@@ -66,79 +70,82 @@ asn_is m q h rs s =
       by_at _ outer ∙ by_at _ inner ∙ p.1,
     )
 
--- a test that picks a number or 0
-picked : (b : Bool) (y n : ℕ) → cond b y 0 ≡ n → 0 < n → (b ≡ true) × (y ≡ n)
-picked true y n e h = (refl, e)
-picked false y n e h = absurd (omega arith)
+-- the octets that name a family, by the tests for either
+named_by :
+    (s : List ℕ) (a b : Bool) (f : Family) → (a ≡ true → s ≡ name_of Ipv4) → (b ≡ true → s ≡ name_of Ipv6)
+    → cond a (Some Ipv4) (cond b (Some Ipv6) None) ≡ Some f → s ≡ name_of f
+named_by s true b f u v e = let i : Ipv4 ≡ f = cc in u refl ∙ ap name_of i
+named_by s false true f u v e = let i : Ipv6 ≡ f = cc in v refl ∙ ap name_of i
+named_by s false false f u v e = let z : ◌≡◌ {A = ℕ} 0 1 = cc in absurd (omega arith)
 
--- the octets that name a family
-name_octets : (s : List ℕ) (n : ℕ) → family_of s ≡ n → 0 < n → (s ≡ 0 ∷ (n ∷ [])) × (n ≤ 2)
-name_octets [] n e h = absurd (omega arith)
-name_octets (x ∷ []) n e h = absurd (omega arith)
-name_octets (x ∷ (y ∷ [])) n e h =
-    let p = picked (eqb x 0 && leb y 2) y n e h in
-    let a = and_parts (eqb x 0) (leb y 2) p.0 in
-    let zero-first = eqb-true x 0 a.0 in
-    let small = leb-true y 2 a.1 in
-    let i = p.1 in
-    (ap (λ (k : ℕ). k ∷ (y ∷ [])) zero-first ∙ ap (λ (k : ℕ). 0 ∷ (k ∷ [])) i, omega arith)
-name_octets (x ∷ (y ∷ (z ∷ s))) n e h =
-    let p = picked (eqb (length (x ∷ (y ∷ (z ∷ s)))) 2 && (eqb x 0 && leb y 2)) y n e h in
-    let l = eqb-true (length (x ∷ (y ∷ (z ∷ s)))) 2 (and_parts _ _ p.0).0 in
-    absurd (omega arith)
+name_octets : (s : List ℕ) (f : Family) → family_named s ≡ Some f → s ≡ name_of f
+name_octets s f e =
+    named_by s (bytes_eq s (name_of Ipv4)) (bytes_eq s (name_of Ipv6)) f
+    (bytes_eq-Decides s (name_of Ipv4)).0 (bytes_eq-Decides s (name_of Ipv6)).0 e
 
-names_family : (n : ℕ) → n ≤ 2 → family_of (0 ∷ (n ∷ [])) ≡ n
-names_family n h = grind (arith, nat_tests)
+names_family : (f : Family) → family_named (name_of f) ≡ Some f
+names_family Ipv4 = refl
+names_family Ipv6 = refl
+
+-- a name that was read in its order
+in_order_ok :
+    (b : Option Family) (place : ℕ) (q : Octets) (o : Option Family) (x : Family × Octets) → Ok x ≡ in_order Set b place q o
+    → (o ≡ Some x.0) × (q ≡ x.1) × (follows b x.0 ≡ true)
+in_order_ok b place q None x e = let z : ◌≡◌ {A = ℕ} 0 1 = cc in absurd (omega arith)
+in_order_ok b place q (Some f) x e =
+    let t = cond_ok (follows b f) Set Value place (Ok (f, q)) x e in
+    let i : (f, q) ≡ x = (let k = t.1 in cc) in
+    let n : f ≡ x.0 = ap (λ (y : Family × Octets). y.0) i in
+    (ap Some n, ap (λ (y : Family × Octets). y.1) i, ap (follows b) (sym n) ∙ t.0)
+
+-- only IPv6 follows IPv4, and nothing IPv6
+after_v4 : (f : Family) → follows (Some Ipv4) f ≡ true → f ≡ Ipv6
+after_v4 Ipv4 e = let z : ◌≡◌ {A = ℕ} 0 1 = cc in absurd (omega arith)
+after_v4 Ipv6 e = refl
+
+after_v6 : (f : Family) → follows (Some Ipv6) f ≡ true → ⊥
+after_v6 f e = let z : ◌≡◌ {A = ℕ} 0 1 = cc in omega arith
 
 -- a family that was read stands there
 at_ok :
-    (q : Octets) (s : Seen × Octets) (b : ℕ) (x : ℕ × Octets) → expect_of Set 48 q ≡ Ok s → head_of b (inside s.0) ≡ Ok x
-    → FamilyAt x.0 q x.1 s.1 × (b < x.0) × (x.0 ≤ 2)
+    (q : Octets) (s : Seen × Octets) (b : Option Family) (x : Family × Octets) → expect_of Set 48 q ≡ Ok s
+    → family_after Set b (inside s.0) ≡ Ok x → FamilyAt x.0 q x.1 s.1 × (follows b x.0 ≡ true)
 at_ok q s b x e f =
     let outer = expect-ok Set 48 q s (sym e) in
     let a = then_ok (expect_of Set 4 (inside s.0)) _ x (sym f) in
     let name = a.0.0 in
     let inner = expect-ok Set 4 (inside s.0) a.0 (sym a.1) in
-    let t = cond_not (leb (family_of name.content) b) Set Value name.place (Ok (family_of name.content, a.0.1)) x a.2 in
-    let past = leb-false _ _ t.0 in
-    let i : (family_of name.content, a.0.1) ≡ x = (let k = t.1 in cc) in
-    let n : family_of name.content ≡ x.0 = ap (λ (y : ℕ × Octets). y.0) i in
-    let o = name_octets name.content x.0 n (omega arith) in
-    let r : a.0.1 ≡ x.1 = ap (λ (y : ℕ × Octets). y.1) i in (
+    let t = in_order_ok b name.place a.0.1 (family_named name.content) x a.2 in (
       record {
         family = s.0;
         name = name;
         first = outer.0;
         tagged = outer.1;
-        named = inner.0 ∙ ap (λ (y : Octets). Ok (name, y)) r;
+        named = inner.0 ∙ ap (λ (y : Octets). Ok (name, y)) t.1;
         octets = inner.1;
-        number = o.0;
+        names = name_octets name.content x.0 t.0;
       },
-      omega arith,
-      o.1,
+      t.2,
     )
 
 -- a family that stands there is read
 pub at-is :
-    (n b : ℕ) (q p after : Octets) (f : FamilyAt n q p after) → b < n → n ≤ 2
-    → (expect_of Set 48 q ≡ Ok (f.family, after)) × (head_of b (inside f.family) ≡ Ok (n, p))
-at-is n b q p after f past small =
-    let i : family_of f.name.content ≡ n = ap family_of f.number ∙ names_family n small in (
+    (g : Family) (b : Option Family) (q p after : Octets) (f : FamilyAt g q p after) → follows b g ≡ true
+    → (expect_of Set 48 q ≡ Ok (f.family, after)) × (family_after Set b (inside f.family) ≡ Ok (g, p))
+at-is g b q p after f past =
+    let i : family_named f.name.content ≡ Some g = ap family_named f.names ∙ names_family g in (
       expect-is Set 48 q f.family after f.first f.tagged,
       then_at _ (expect-is Set 4 (inside f.family) f.name p f.named f.octets)
-          ∙ cond-false (leb (family_of f.name.content) b) _ _ (lt-leb _ _ (omega arith))
-          ∙ ap (λ (k : ℕ). Ok (k, p)) i,
+          ∙ ap (in_order Set b f.name.place p) i
+          ∙ cond-true (follows b g) _ _ past,
     )
 
 no_more_by : (b : Bool) (q : Octets) → b ≡ eqb (length q.octets) 0 → Ok tt ≡ cond b (Ok tt) (further q) → Ended q
 no_more_by true q i e = eqb-true _ _ (sym i)
 no_more_by false q i e =
     let a = then_ok (expect_of Set 48 q) _ tt e in
-    let c = then_ok (head_of 2 (inside a.0.0)) _ tt a.2 in
-    let f = at_ok q a.0 2 c.0 a.1 c.1 in
-    let past = f.1 in
-    let small = f.2 in
-    absurd (omega arith)
+    let c = then_ok (family_after Set (Some Ipv6) (inside a.0.0)) _ tt a.2 in
+    absurd (after_v6 c.0.0 (at_ok q a.0 (Some Ipv6) c.0 a.1 c.1).1)
 
 -- nothing follows IPv6
 no_more_ok : (q : Octets) → Ok tt ≡ no_more q → Ended q
@@ -150,7 +157,7 @@ no_more_is q h = cond-true (eqb (length q.octets) 0) _ _ (eq-eqb _ _ h)
 module _ {P : Type 0} (rank : P → ℕ) (entry : Seen → Result (Range P) Report) where
   -- a family that says something is present
   optional-of :
-      (m : May) (n : ℕ) (q : Octets) (h : Held) (rs : List (Range P)) (after : Octets) → Family rank entry m n q h rs after
+      (m : May) (n : Family) (q : Octets) (h : Held) (rs : List (Range P)) (after : Octets) → FamilySays rank entry m n q h rs after
       → Optional rank entry m n q h rs after
   optional-of m n q held.Absent rs after f = absurd f.part
   optional-of m n q held.Inherited rs after f = f
@@ -161,14 +168,14 @@ module _ {P : Type 0} (rank : P → ℕ) (entry : Seen → Result (Range P) Repo
   Gone q h rs after = (h ≡ held.Absent) × (after ≡ q) × (rs ≡ [])
 
   optional-is :
-      (m : May) (n : ℕ) (q : Octets) (h : Held) (rs : List (Range P)) (after : Octets) → Optional rank entry m n q h rs after
-      → Gone q h rs after ⊎ Family rank entry m n q h rs after
+      (m : May) (n : Family) (q : Octets) (h : Held) (rs : List (Range P)) (after : Octets) → Optional rank entry m n q h rs after
+      → Gone q h rs after ⊎ FamilySays rank entry m n q h rs after
   optional-is m n q held.Absent rs after o = inl (refl, o.0, o.1)
   optional-is m n q held.Inherited rs after o = inr o
   optional-is m n q (held.List place k) rs after o = inr o
 
 abbrev V6Optional : May → Octets → Held → List (Range V6) → Octets → Type 0
-V6Optional m q h rs after = Optional v6_rank v6_entry m 2 q h rs after
+V6Optional m q h rs after = Optional v6_rank v6_entry m Ipv6 q h rs after
 
 -- IPv6 after IPv4
 pub record Second (m : May) (q : Octets) (h : Held) (rs : List (Range V6)) : Type 0 where
@@ -176,27 +183,25 @@ pub record Second (m : May) (q : Octets) (h : Held) (rs : List (Range V6)) : Typ
   pub said : V6Optional m q h rs after
   pub ended : Ended after
 
--- a family of number 2 whose part was read, and nothing after it
+-- an IPv6 family whose part was read, and nothing after it
 v6_read :
-    (m : May) (q : Octets) (s : Seen × Octets) (x : ℕ × Octets) (h : Held) → FamilyAt x.0 q x.1 s.1 → x.0 ≡ 2
-    → Ok h ≡ read_part v6_rank v6_entry m x.1 → Ended s.1 → Second m q h (ranges_of v6_rank v6_entry m x.1)
-v6_read m q s x h f two e n =
-    let rs = ranges_of v6_rank v6_entry m x.1 in
-    let g : FamilyAt 2 q x.1 s.1 = subst (λ (k : ℕ). FamilyAt k q x.1 s.1) two f in
+    (m : May) (q p after : Octets) (h : Held) → FamilyAt Ipv6 q p after → Ok h ≡ read_part v6_rank v6_entry m p → Ended after
+    → Second m q h (ranges_of v6_rank v6_entry m p)
+v6_read m q p after h f e n =
     record {
-      after = s.1;
-      said = optional-of v6_rank v6_entry m 2 q h rs s.1
-          (record { inner = x.1; stands = g; part = part_says v6_rank v6_entry v6_forward m x.1 h e });
+      after = after;
+      said = optional-of v6_rank v6_entry m Ipv6 q h (ranges_of v6_rank v6_entry m p) after
+          (record { inner = p; stands = f; part = part_says v6_rank v6_entry v6_forward m p h e });
       ended = n;
     }
 
 abbrev pub second_read : May → Octets → Result Held Report
 second_read m q =
     then_read (expect_of Set 48 q) (λ s.
-    then_read (head_of 1 (inside s.0)) (λ h. last_of m h.1 s.1))
+    then_read (family_after Set (Some Ipv4) (inside s.0)) (λ h. last_of m h.1 s.1))
 
 abbrev second_kept : May → Octets → List (Range V6)
-second_kept m q = read_by (expect_of Set 48 q) (λ s. read_by (head_of 1 (inside s.0)) (λ h. ranges_of v6_rank v6_entry m h.1))
+second_kept m q = read_by (expect_of Set 48 q) (λ s. read_by (family_after Set (Some Ipv4) (inside s.0)) (λ h. ranges_of v6_rank v6_entry m h.1))
 
 second-by :
     (b : Bool) (m : May) (q : Octets) (h : Held) → b ≡ eqb (length q.octets) 0 → Ok h ≡ cond b (Ok held.Absent) (second_read m q)
@@ -207,25 +212,24 @@ second-by true m q h i e =
 second-by false m q h i e =
     let a = then_ok (expect_of Set 48 q) _ h e in
     let s = a.0 in
-    let b = then_ok (head_of 1 (inside s.0)) _ h a.2 in
+    let b = then_ok (family_after Set (Some Ipv4) (inside s.0)) _ h a.2 in
     let x = b.0 in
     let c = then_ok (read_part v6_rank v6_entry m x.1) _ h b.2 in
     let d = then_ok (no_more s.1) _ h c.2 in
-    let f = at_ok q s 1 x a.1 b.1 in
-    let past = f.1 in
-    let small = f.2 in
+    let f = at_ok q s (Some Ipv4) x a.1 b.1 in
+    let g : FamilyAt Ipv6 q x.1 s.1 = subst (λ (k : Family). FamilyAt k q x.1 s.1) (after_v4 x.0 f.1) f.0 in
     let rs : ranges_of v6_rank v6_entry m x.1 ≡ second_kept m q =
-    sym (by_at (λ s. read_by (head_of 1 (inside s.0)) (λ h. ranges_of v6_rank v6_entry m h.1)) a.1
+    sym (by_at (λ s. read_by (family_after Set (Some Ipv4) (inside s.0)) (λ h. ranges_of v6_rank v6_entry m h.1)) a.1
     ∙ by_at (λ h. ranges_of v6_rank v6_entry m h.1) b.1) in
     subst (λ (y : List (Range V6)). Second m q h y) rs
-    (v6_read m q s x h f.0 (omega arith) (d.2 ∙ sym c.1) (no_more_ok s.1 (sym d.1)))
+    (v6_read m q x.1 s.1 h g (d.2 ∙ sym c.1) (no_more_ok s.1 (sym d.1)))
 
 second_says : (m : May) (q : Octets) (h : Held) → Ok h ≡ second_of m q → Second m q h (second_ranges m q)
 second_says m q h e = second-by (eqb (length q.octets) 0) m q h refl e
 
 second_is :
     (m : May) (q : Octets) (h : Held) (rs : List (Range V6)) (after : Octets)
-    → Gone v6_rank v6_entry q h rs after ⊎ Family v6_rank v6_entry m 2 q h rs after → Ended after
+    → Gone v6_rank v6_entry q h rs after ⊎ FamilySays v6_rank v6_entry m Ipv6 q h rs after → Ended after
     → (second_of m q ≡ Ok h) × (second_ranges m q ≡ rs)
 second_is m q h rs after (inl g) n =
     let ended : Ended q = subst (λ (y : Octets). Ended y) g.1 n in
@@ -234,7 +238,7 @@ second_is m q h rs after (inl g) n =
       cond-true (eqb (length q.octets) 0) [] (second_kept m q) t ∙ sym g.2,
     )
 second_is m q h rs after (inr f) n =
-    let a = at-is 2 1 q f.inner after f.stands (omega arith) (omega arith) in
+    let a = at-is Ipv6 (Some Ipv4) q f.inner after f.stands refl in
     let p = part-is v6_rank v6_entry m f.inner h rs f.part in
     let t : eqb (length q.octets) 0 ≡ false = ne_eqb _ _ (not_ended q f.stands.family after f.stands.first) in (
       cond-false (eqb (length q.octets) 0) (Ok held.Absent) (second_read m q) t
@@ -242,53 +246,40 @@ second_is m q h rs after (inr f) n =
       cond-false (eqb (length q.octets) 0) [] (second_kept m q) t ∙ by_at _ a.0 ∙ by_at _ a.1 ∙ p.1,
     )
 
--- the families by the number of the first
-abbrev families_by : Bool → May → Octets → Octets → Result Addresses Report
-families_by two m p q = cond two (v6_alone m p q) (v4_first m p q)
-
-abbrev v4_by : Bool → May → Octets → List (Range V4)
-v4_by two m p = cond two [] (ranges_of v4_rank v4_entry m p)
-
-abbrev v6_by : Bool → May → Octets → Octets → List (Range V6)
-v6_by two m p q = cond two (ranges_of v6_rank v6_entry m p) (v6_after m p q)
-
+-- the families by the first of them
 families-by :
-    (two : Bool) (m : May) (q : Octets) (s : Seen × Octets) (x : ℕ × Octets) (a : Addresses) → FamilyAt x.0 q x.1 s.1
-    → two ≡ eqb x.0 2 → 0 < x.0 → x.0 ≤ 2 → Ok a ≡ families_by two m x.1 s.1
-    → FamiliesSay m q a (v4_by two m x.1, v6_by two m x.1 s.1)
-families-by true m q s x a f i past small e =
-    let b = then_ok (last_of m x.1 s.1) _ a e in
-    let c = then_ok (read_part v6_rank v6_entry m x.1) _ b.0 (sym b.1) in
-    let d = then_ok (no_more s.1) _ b.0 c.2 in
-    let z = v6_read m q s x b.0 f (eqb-true _ _ (sym i)) (d.2 ∙ sym c.1) (no_more_ok s.1 (sym d.1)) in
+    (g : Family) (m : May) (q p after : Octets) (a : Addresses) → FamilyAt g q p after → Ok a ≡ from_first g m p after
+    → FamiliesSay m q a (v4_first g m p, v6_from g m p after)
+families-by Ipv6 m q p after a f e =
+    let b = then_ok (last_of m p after) _ a e in
+    let c = then_ok (read_part v6_rank v6_entry m p) _ b.0 (sym b.1) in
+    let d = then_ok (no_more after) _ b.0 c.2 in
+    let z = v6_read m q p after b.0 f (d.2 ∙ sym c.1) (no_more_ok after (sym d.1)) in
     let is : record { v4 = held.Absent; v6 = b.0 } ≡ a = (let k = b.2 in cc) in
-    subst (λ (y : Addresses). FamiliesSay m q y ([], ranges_of v6_rank v6_entry m x.1)) is
+    subst (λ (y : Addresses). FamiliesSay m q y ([], ranges_of v6_rank v6_entry m p)) is
     (record {
       middle = q;
       after = z.after;
-      some = not_ended q f.family s.1 f.first;
+      some = not_ended q f.family after f.first;
       v4 = (refl, refl);
       v6 = z.said;
       ended = z.ended;
     })
-families-by false m q s x a f i past small e =
-    let two = eqb-false x.0 2 (sym i) in
-    let one : x.0 ≡ 1 = omega arith in
-    let g : FamilyAt 1 q x.1 s.1 = subst (λ (k : ℕ). FamilyAt k q x.1 s.1) one f in
-    let b = then_ok (read_part v4_rank v4_entry m x.1) _ a e in
-    let c = then_ok (second_of m s.1) _ a b.2 in
-    let z = second_says m s.1 c.0 (sym c.1) in
+families-by Ipv4 m q p after a f e =
+    let b = then_ok (read_part v4_rank v4_entry m p) _ a e in
+    let c = then_ok (second_of m after) _ a b.2 in
+    let z = second_says m after c.0 (sym c.1) in
     let is : record { v4 = b.0; v6 = c.0 } ≡ a = (let k = c.2 in cc) in
-    let rs : second_ranges m s.1 ≡ v6_after m x.1 s.1 = sym (by_at (λ _. second_ranges m s.1) b.1) in
-    let rs4 = ranges_of v4_rank v4_entry m x.1 in
+    let rs : second_ranges m after ≡ v6_from Ipv4 m p after = sym (by_at (λ _. second_ranges m after) b.1) in
+    let rs4 = ranges_of v4_rank v4_entry m p in
     subst (λ (l : List (Range V6)). FamiliesSay m q a (rs4, l)) rs
-    (subst (λ (y : Addresses). FamiliesSay m q y (rs4, second_ranges m s.1)) is
+    (subst (λ (y : Addresses). FamiliesSay m q y (rs4, second_ranges m after)) is
     (record {
-      middle = s.1;
+      middle = after;
       after = z.after;
-      some = not_ended q f.family s.1 f.first;
-      v4 = optional-of v4_rank v4_entry m 1 q b.0 rs4 s.1
-          (record { inner = x.1; stands = g; part = part_says v4_rank v4_entry v4_forward m x.1 b.0 (sym b.1) });
+      some = not_ended q f.family after f.first;
+      v4 = optional-of v4_rank v4_entry m Ipv4 q b.0 rs4 after
+          (record { inner = p; stands = f; part = part_says v4_rank v4_entry v4_forward m p b.0 (sym b.1) });
       v6 = z.said;
       ended = z.ended;
     }))
@@ -297,16 +288,16 @@ families_say : (m : May) (q : Octets) (a : Addresses) → Ok a ≡ families_of m
 families_say m q a e =
     let b = then_ok (expect_of Set 48 q) _ a e in
     let s = b.0 in
-    let c = then_ok (head_of 0 (inside s.0)) _ a b.2 in
+    let c = then_ok (family_after Set None (inside s.0)) _ a b.2 in
     let x = c.0 in
-    let f = at_ok q s 0 x b.1 c.1 in
-    let v4 : v4_by (eqb x.0 2) m x.1 ≡ families_v4 m q =
-    sym (by_at (λ s. read_by (head_of 0 (inside s.0)) (λ h. v4_by (eqb h.0 2) m h.1)) b.1 ∙ by_at (λ h. v4_by (eqb h.0 2) m h.1) c.1) in
-    let v6 : v6_by (eqb x.0 2) m x.1 s.1 ≡ families_v6 m q =
-    sym (by_at (λ s. read_by (head_of 0 (inside s.0)) (λ h. v6_by (eqb h.0 2) m h.1 s.1)) b.1 ∙ by_at (λ h. v6_by (eqb h.0 2) m h.1 s.1) c.1) in
+    let f = at_ok q s None x b.1 c.1 in
+    let v4 : v4_first x.0 m x.1 ≡ families_v4 m q =
+    sym (by_at (λ s. read_by (family_after Set None (inside s.0)) (λ h. v4_first h.0 m h.1)) b.1 ∙ by_at (λ h. v4_first h.0 m h.1) c.1) in
+    let v6 : v6_from x.0 m x.1 s.1 ≡ families_v6 m q =
+    sym (by_at (λ s. read_by (family_after Set None (inside s.0)) (λ h. v6_from h.0 m h.1 s.1)) b.1 ∙ by_at (λ h. v6_from h.0 m h.1 s.1) c.1) in
     subst (λ (l : List (Range V4)). FamiliesSay m q a (l, families_v6 m q)) v4
-    (subst (λ (l : List (Range V6)). FamiliesSay m q a (v4_by (eqb x.0 2) m x.1, l)) v6
-    (families-by (eqb x.0 2) m q s x a f.0 refl f.1 f.2 c.2))
+    (subst (λ (l : List (Range V6)). FamiliesSay m q a (v4_first x.0 m x.1, l)) v6
+    (families-by x.0 m q x.1 s.1 a f.0 c.2))
 
 abbrev Read : May → Octets → Held → Held → List (Range V4) → List (Range V6) → Type 0
 Read m q h k rs4 rs6 = (families_of m q ≡ Ok record { v4 = h; v6 = k }) × (families_v4 m q ≡ rs4) × (families_v6 m q ≡ rs6)
@@ -314,10 +305,10 @@ Read m q h k rs4 rs6 = (families_of m q ≡ Ok record { v4 = h; v6 = k }) × (fa
 -- IPv4 and what follows it
 v4-is :
     (m : May) (q middle after : Octets) (h k : Held) (rs4 : List (Range V4)) (rs6 : List (Range V6))
-    → Family v4_rank v4_entry m 1 q h rs4 middle → Gone v6_rank v6_entry middle k rs6 after ⊎ Family v6_rank v6_entry m 2 middle k rs6 after → Ended after
+    → FamilySays v4_rank v4_entry m Ipv4 q h rs4 middle → Gone v6_rank v6_entry middle k rs6 after ⊎ FamilySays v6_rank v6_entry m Ipv6 middle k rs6 after → Ended after
     → Read m q h k rs4 rs6
 v4-is m q middle after h k rs4 rs6 f o n =
-    let a = at-is 1 0 q f.inner middle f.stands (omega arith) (omega arith) in
+    let a = at-is Ipv4 None q f.inner middle f.stands refl in
     let p = part-is v4_rank v4_entry m f.inner h rs4 f.part in
     let z = second_is m middle k rs6 after o n in (
       then_at _ a.0 ∙ then_at _ a.1 ∙ then_at _ p.0 ∙ then_at _ z.0,
@@ -327,10 +318,10 @@ v4-is m q middle after h k rs4 rs6 f o n =
 
 -- IPv6 alone
 v6_is :
-    (m : May) (q after : Octets) (k : Held) (rs6 : List (Range V6)) → Family v6_rank v6_entry m 2 q k rs6 after → Ended after
+    (m : May) (q after : Octets) (k : Held) (rs6 : List (Range V6)) → FamilySays v6_rank v6_entry m Ipv6 q k rs6 after → Ended after
     → Read m q held.Absent k [] rs6
 v6_is m q after k rs6 f n =
-    let a = at-is 2 0 q f.inner after f.stands (omega arith) (omega arith) in
+    let a = at-is Ipv6 None q f.inner after f.stands refl in
     let p = part-is v6_rank v6_entry m f.inner k rs6 f.part in
     let last : last_of m f.inner after ≡ Ok k = then_at _ p.0 ∙ then_at _ (no_more_is after n) in (
       then_at _ a.0 ∙ then_at _ a.1 ∙ then_at _ last,
@@ -340,18 +331,18 @@ v6_is m q after k rs6 f n =
 
 absent-v4 :
     (m : May) (q middle after : Octets) (h k : Held) (rs4 : List (Range V4)) (rs6 : List (Range V6)) → (Ended q → ⊥)
-    → Gone v4_rank v4_entry q h rs4 middle → Gone v6_rank v6_entry middle k rs6 after ⊎ Family v6_rank v6_entry m 2 middle k rs6 after → Ended after
+    → Gone v4_rank v4_entry q h rs4 middle → Gone v6_rank v6_entry middle k rs6 after ⊎ FamilySays v6_rank v6_entry m Ipv6 middle k rs6 after → Ended after
     → Read m q h k rs4 rs6
 absent-v4 m q middle after h k rs4 rs6 some g (inl o) n =
     absurd (some (subst (λ (y : Octets). Ended y) (o.1 ∙ g.1) n))
 absent-v4 m q middle after h k rs4 rs6 some g (inr f) n =
-    let x = v6_is m q after k rs6 (subst (λ (y : Octets). Family v6_rank v6_entry m 2 y k rs6 after) g.1 f) n in
+    let x = v6_is m q after k rs6 (subst (λ (y : Octets). FamilySays v6_rank v6_entry m Ipv6 y k rs6 after) g.1 f) n in
     (x.0 ∙ ap (λ (y : Held). Ok record { v4 = y; v6 = k }) (sym g.0), x.1 ∙ sym g.2, x.2)
 
 families-are :
     (m : May) (q middle after : Octets) (h k : Held) (rs4 : List (Range V4)) (rs6 : List (Range V6)) → (Ended q → ⊥)
-    → Gone v4_rank v4_entry q h rs4 middle ⊎ Family v4_rank v4_entry m 1 q h rs4 middle
-    → Gone v6_rank v6_entry middle k rs6 after ⊎ Family v6_rank v6_entry m 2 middle k rs6 after → Ended after
+    → Gone v4_rank v4_entry q h rs4 middle ⊎ FamilySays v4_rank v4_entry m Ipv4 q h rs4 middle
+    → Gone v6_rank v6_entry middle k rs6 after ⊎ FamilySays v6_rank v6_entry m Ipv6 middle k rs6 after → Ended after
     → Read m q h k rs4 rs6
 families-are m q middle after h k rs4 rs6 some (inl g) o n = absent-v4 m q middle after h k rs4 rs6 some g o n
 families-are m q middle after h k rs4 rs6 some (inr f) o n = v4-is m q middle after h k rs4 rs6 f o n
@@ -360,8 +351,8 @@ families-is :
     (m : May) (q : Octets) (a : Addresses) (rs : List (Range V4) × List (Range V6)) → FamiliesSay m q a rs → Read m q a.v4 a.v6 rs.0 rs.1
 families-is m q a rs s =
     families-are m q s.middle s.after a.v4 a.v6 rs.0 rs.1 s.some
-    (optional-is v4_rank v4_entry m 1 q a.v4 rs.0 s.middle s.v4)
-    (optional-is v6_rank v6_entry m 2 s.middle a.v6 rs.1 s.after s.v6)
+    (optional-is v4_rank v4_entry m Ipv4 q a.v4 rs.0 s.middle s.v4)
+    (optional-is v6_rank v6_entry m Ipv6 s.middle a.v6 rs.1 s.after s.v6)
     s.ended
 
 -- the value for addresses

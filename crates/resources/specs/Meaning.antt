@@ -4,6 +4,8 @@ use Rattle.std.specs.Prelude.{◌≡◌, ℕ, true, ◌⊎◌, List, [], ◌∷�
 use Rattle.fault.specs.declared.Rule.TheVariants.{Value}
 use Rattle.fault.specs.declared.Layer.TheVariants.{Set}
 use Rattle.fault.specs.declared.Report.{Report}
+use Rattle.family.specs.declared.Family.{Family}
+use Rattle.family.specs.declared.Family.TheVariants.{Ipv4, Ipv6}
 use Rattle.element.specs.Reading.{Seen, Octets, read_of}
 use Rattle.layout.specs.Expecting.{broken}
 use Rattle.points.specs.declared.V4.{V4}
@@ -71,36 +73,41 @@ pub record AsnSays (m : May) (q : Octets) (h : Held) (rs : List (Range Asn)) : T
   pub choice : Only (inside outer) 160 numbers
   pub part : PartSays asn_rank asn_entry m (inside numbers) h rs
 
--- the octets q begin with the family of number n, p stands after its name and `after` follows the family
-pub record FamilyAt (n : ℕ) (q p after : Octets) : Type 0 where
+-- the octets that name a family: 00 01 is IPv4, 00 02 is IPv6 (RFC 3779 2.2.3.3)
+abbrev pub name_of : Family → List ℕ
+name_of Ipv4 = 0 ∷ (1 ∷ [])
+name_of Ipv6 = 0 ∷ (2 ∷ [])
+
+-- the octets q begin with the family f, p stands after its name and `after` follows the family
+pub record FamilyAt (f : Family) (q p after : Octets) : Type 0 where
   pub family : Seen
   pub name : Seen
   pub first : Next q family after
   pub tagged : family.tag ≡ 48
   pub named : Next (inside family) name p
   pub octets : name.tag ≡ 4
-  pub number : name.content ≡ 0 ∷ (n ∷ [])
+  pub names : name.content ≡ name_of f
 
 module _ {P : Type 0} (rank : P → ℕ) (entry : Seen → Result (Range P) Report) where
-  -- the octets q begin with the family of number n, which says this and lists these ranges, and `after` follows it
-  pub record Family (m : May) (n : ℕ) (q : Octets) (h : Held) (rs : List (Range P)) (after : Octets) : Type 0 where
+  -- the octets q begin with the family f, which says this and lists these ranges, and `after` follows it
+  pub record FamilySays (m : May) (f : Family) (q : Octets) (h : Held) (rs : List (Range P)) (after : Octets) : Type 0 where
     pub inner : Octets
-    pub stands : FamilyAt n q inner after
+    pub stands : FamilyAt f q inner after
     pub part : PartSays rank entry m inner h rs
 
   -- the same of a family that may be absent: then nothing is said, and q is what follows
-  abbrev pub Optional : May → ℕ → Octets → Held → List (Range P) → Octets → Type 0
-  Optional m n q held.Absent rs after = (after ≡ q) × (rs ≡ [])
-  Optional m n q held.Inherited rs after = Family m n q held.Inherited rs after
-  Optional m n q (held.List place k) rs after = Family m n q (held.List place k) rs after
+  abbrev pub Optional : May → Family → Octets → Held → List (Range P) → Octets → Type 0
+  Optional m f q held.Absent rs after = (after ≡ q) × (rs ≡ [])
+  Optional m f q held.Inherited rs after = FamilySays m f q held.Inherited rs after
+  Optional m f q (held.List place k) rs after = FamilySays m f q (held.List place k) rs after
 
--- the octets q are families, one or two, IPv4 (1) before IPv6 (2), that say this and list these ranges
+-- the octets q are families, one or two, IPv4 before IPv6, that say this and list these ranges
 pub record FamiliesSay (m : May) (q : Octets) (a : Addresses) (rs : List (Range V4) × List (Range V6)) : Type 0 where
   pub middle : Octets
   pub after : Octets
   pub some : Ended q → ⊥
-  pub v4 : Optional v4_rank v4_entry m 1 q a.v4 rs.0 middle
-  pub v6 : Optional v6_rank v6_entry m 2 middle a.v6 rs.1 after
+  pub v4 : Optional v4_rank v4_entry m Ipv4 q a.v4 rs.0 middle
+  pub v6 : Optional v6_rank v6_entry m Ipv6 middle a.v6 rs.1 after
   pub ended : Ended after
 
 -- the value q of the extension for addresses says this, and lists these ranges
@@ -142,9 +149,9 @@ pub record AsnListIn (q : Octets) (e : Seen) : Type 0 where
 -- e is the SEQUENCE of the list of one of the families q, that of the first, or that of IPv6 after an IPv4 family that says something
 abbrev pub FamiliesListIn : May → Octets → Seen → Type 0
 FamiliesListIn m q e =
-    ((n : ℕ) × (p : Octets) × (after : Octets) × ((n ≡ 1) ⊎ (n ≡ 2)) × FamilyAt n q p after × ListAt p e)
+    ((f : Family) × (p : Octets) × (after : Octets) × FamilyAt f q p after × ListAt p e)
     ⊎ ((h : Held) × (rs : List (Range V4)) × (middle : Octets) × (p : Octets) × (after : Octets)
-    × Family v4_rank v4_entry m 1 q h rs middle × FamilyAt 2 middle p after × ListAt p e)
+    × FamilySays v4_rank v4_entry m Ipv4 q h rs middle × FamilyAt Ipv6 middle p after × ListAt p e)
 
 -- e is the SEQUENCE of such a list in the value q of the extension for addresses, whatever follows it
 pub record AddressListIn (m : May) (q : Octets) (e : Seen) : Type 0 where

@@ -1,10 +1,12 @@
 -- The values of the two resource extensions (RFC 3779 2.2.3 and 3.2.3). Assumes nothing.
-use Rattle.std.specs.Prelude.{ℕ, cond, ◌&&◌, List, [], length, replicate, Ok, Result, ◌==◌, nat_le, slice_index}
-use Rattle.fault.specs.declared.Rule.TheVariants.{Value}
+use Rattle.std.specs.Prelude.{ℕ, cond, List, [], length, replicate, Some, None, Ok, Result, ◌==◌}
 use Rattle.fault.specs.declared.Layer.TheVariants.{Set}
 use Rattle.fault.specs.declared.Report.{Report}
+use Rattle.family.specs.declared.Family.{Family}
+use Rattle.family.specs.declared.Family.TheVariants.{Ipv4, Ipv6}
 use Rattle.element.specs.Reading.{Octets}
-use Rattle.layout.specs.Expecting.{broken, then_read, expect_of, end_of}
+use Rattle.layout.specs.Expecting.{then_read, expect_of, end_of}
+use Rattle.families.specs.Families.{family_after}
 use Rattle.points.specs.declared.V4.{V4}
 use Rattle.points.specs.declared.V6.{V6}
 use Rattle.points.specs.declared.Asn.{Asn}
@@ -20,19 +22,9 @@ use Rattle.resources.specs.declared.May.{May}
 use Rattle.resources.specs.declared.Tables.{Tables}
 use Rattle.resources.specs.Parts.{read_by, read_part, ranges_of}
 
--- the number of an address family: two octets, 00 01 for IPv4 and 00 02 for IPv6 (RFC 3779 2.2.3.3), 0 for any others
-abbrev pub family_of : List ℕ → ℕ
-family_of s = cond (length s == 2 && (slice_index s 0 == 0 && nat_le (slice_index s 1) 2)) (slice_index s 1) 0
-
--- the family that a content begins with, after the one before it, and the octets after its name
-abbrev pub head_of : ℕ → Octets → Result (ℕ × Octets) Report
-head_of before q =
-    then_read (expect_of Set 4 q) (λ name.
-    cond (nat_le (family_of name.0.content) before) (broken Set Value name.0.place) (Ok (family_of name.0.content, name.1)))
-
 -- a family after IPv6, whose name does not ascend
 abbrev pub further : Octets → Result (Unit {0}) Report
-further q = then_read (expect_of Set 48 q) (λ s. then_read (head_of 2 (inside s.0)) (λ _. Ok tt))
+further q = then_read (expect_of Set 48 q) (λ s. then_read (family_after Set (Some Ipv6) (inside s.0)) (λ _. Ok tt))
 
 -- no family follows IPv6
 abbrev pub no_more : Octets → Result (Unit {0}) Report
@@ -47,44 +39,43 @@ abbrev pub second_of : May → Octets → Result Held Report
 second_of m q =
     cond (length q.octets == 0) (Ok held.Absent)
     (then_read (expect_of Set 48 q) (λ s.
-    then_read (head_of 1 (inside s.0)) (λ h. last_of m h.1 s.1)))
+    then_read (family_after Set (Some Ipv4) (inside s.0)) (λ h. last_of m h.1 s.1)))
 
 abbrev pub second_ranges : May → Octets → List (Range V6)
 second_ranges m q =
     cond (length q.octets == 0) []
-    (read_by (expect_of Set 48 q) (λ s. read_by (head_of 1 (inside s.0)) (λ h. ranges_of v6_rank v6_entry m h.1)))
+    (read_by (expect_of Set 48 q) (λ s. read_by (family_after Set (Some Ipv4) (inside s.0)) (λ h. ranges_of v6_rank v6_entry m h.1)))
 
--- IPv6 as the first family, said by the octets p, and what follows it
-abbrev pub v6_alone : May → Octets → Octets → Result Addresses Report
-v6_alone m p q = then_read (last_of m p q) (λ v6. Ok record { v4 = held.Absent; v6 = v6 })
-
--- IPv4 as the first family, said by the octets p, and what follows it
-abbrev pub v4_first : May → Octets → Octets → Result Addresses Report
-v4_first m p q =
+-- the first family, said by the octets p, and what follows it: IPv6 may follow IPv4
+abbrev pub from_first : Family → May → Octets → Octets → Result Addresses Report
+from_first Ipv4 m p q =
     then_read (read_part v4_rank v4_entry m p) (λ v4. then_read (second_of m q) (λ v6. Ok record { v4 = v4; v6 = v6 }))
+from_first Ipv6 m p q = then_read (last_of m p q) (λ v6. Ok record { v4 = held.Absent; v6 = v6 })
 
 -- what the families in some octets say: at least one, in ascending order
 abbrev pub families_of : May → Octets → Result Addresses Report
 families_of m q =
     then_read (expect_of Set 48 q) (λ s.
-    then_read (head_of 0 (inside s.0)) (λ h.
-    cond (h.0 == 2) (v6_alone m h.1 s.1) (v4_first m h.1 s.1)))
+    then_read (family_after Set None (inside s.0)) (λ h. from_first h.0 m h.1 s.1))
 
 -- the ranges of each kind that are read there
+abbrev pub v4_first : Family → May → Octets → List (Range V4)
+v4_first Ipv4 m p = ranges_of v4_rank v4_entry m p
+v4_first Ipv6 m p = []
+
 abbrev pub families_v4 : May → Octets → List (Range V4)
 families_v4 m q =
     read_by (expect_of Set 48 q) (λ s.
-    read_by (head_of 0 (inside s.0)) (λ h.
-    cond (h.0 == 2) [] (ranges_of v4_rank v4_entry m h.1)))
+    read_by (family_after Set None (inside s.0)) (λ h. v4_first h.0 m h.1))
 
-abbrev pub v6_after : May → Octets → Octets → List (Range V6)
-v6_after m p q = read_by (read_part v4_rank v4_entry m p) (λ _. second_ranges m q)
+abbrev pub v6_from : Family → May → Octets → Octets → List (Range V6)
+v6_from Ipv4 m p q = read_by (read_part v4_rank v4_entry m p) (λ _. second_ranges m q)
+v6_from Ipv6 m p q = ranges_of v6_rank v6_entry m p
 
 abbrev pub families_v6 : May → Octets → List (Range V6)
 families_v6 m q =
     read_by (expect_of Set 48 q) (λ s.
-    read_by (head_of 0 (inside s.0)) (λ h.
-    cond (h.0 == 2) (ranges_of v6_rank v6_entry m h.1) (v6_after m h.1 s.1)))
+    read_by (family_after Set None (inside s.0)) (λ h. v6_from h.0 m h.1 s.1))
 
 -- the value of the extension for addresses: one SEQUENCE of families, and nothing after it
 abbrev pub addresses_of : May → Octets → Result Addresses Report

@@ -4,7 +4,7 @@
 // `read_asn_value` from octets of their own. Each part of the resources (IPv4, IPv6, AS numbers) is absent, inherited or
 // a list, and the caller says by `May` what may stand there. The ranges of a list stand at the front of the lent table of
 // its kind. A list of no entries is refused, so that it is never taken for an inherited part, and a list that was read is lawful.
-// It rests on `lists` for the entries of a list and on `layout` for what a layout wants.
+// It rests on `lists` for the entries of a list, on `families` for the names of the families and on `layout` for what a layout wants.
 #![tactic(auto)]
 
 ghost use Rattle.std.specs.Prelude.{◌≡◌, length};
@@ -15,12 +15,14 @@ ghost use Rattle.lists.specs.Entries.{kept};
 ghost use Rattle.resources.specs.Parts.{allowed, choice_of, held_of, ranges_in, read_part, ranges_of};
 ghost use Rattle.points.specs.Ranks.{v6_rank};
 ghost use Rattle.entries.specs.Kinds.{v6_entry};
-ghost use Rattle.resources.specs.Values.{family_of, head_of, no_more, last_of, second_of, second_ranges, families_of, families_v4, families_v6, addresses_of, addresses_v4, addresses_v6, address_tables, asn_of, asn_ranges, asn_tables, alone, fresh_tables};
+ghost use Rattle.resources.specs.Values.{no_more, last_of, second_of, second_ranges, families_of, families_v4, families_v6, addresses_of, addresses_v4, addresses_v6, address_tables, asn_of, asn_ranges, asn_tables, alone, fresh_tables};
 ghost use Rattle.resources.specs.Meaning.{Tells, AddressesSay, AsnSays, addresses_listed, asn_listed, AddressListIn, AsnListIn, EmptyRefused};
 
 use content::tag;
 use element::{Element, Part};
 use entries::Resource;
+use families::family_after;
+use family::Family;
 use fault::{Rule, SetFault};
 use layout::{LayerFault, end, expect, next};
 use lists::read_entries;
@@ -145,28 +147,6 @@ fn read_part<P: Resource>(
     Ok(held)
 }
 
-// The number of the address family that octets name: 1 for IPv4, 2 for IPv6, 0 where they name neither.
-fn family_number(octets: &[u8]) -> u8
-    ensures { result ≡ family_of octets.now }
-{
-    if octets.len() != 2 || octets[0] != 0 || octets[1] > 2 {
-        return 0;
-    }
-    octets[1]
-}
-
-// The family that a content begins with, which has to stand after the one before it, and the octets after its name.
-fn head<'a>(content: Part<'a>, before: u8) -> Result<(u8, Part<'a>), SetFault>
-    ensures value { told_by set_report (λ h. (h.0, octets_of h.1)) result ≡ head_of before (octets_of content.entry) }
-{
-    let (name, rest) = expect::<SetFault>(content, tag::OCTET_STRING)?;
-    let number = family_number(name.content.octets);
-    if number <= before {
-        return Err(SetFault::own(Rule::Value, name.place));
-    }
-    Ok((number, rest))
-}
-
 // No family after IPv6: one that stands there is refused where its name is read.
 fn no_more(rest: Part<'_>) -> Result<(), SetFault>
     ensures { reported set_report result ≡ no_more (octets_of rest.entry) }
@@ -175,7 +155,7 @@ fn no_more(rest: Part<'_>) -> Result<(), SetFault>
         return Ok(());
     }
     let (family, _) = expect::<SetFault>(rest, tag::SEQUENCE)?;
-    head(family.content, 2)?;
+    family_after::<SetFault>(family.content, Some(Family::Ipv6))?;
     Ok(())
 }
 
@@ -203,7 +183,7 @@ fn second(rest: Part<'_>, may: May, v6: &mut [Range<V6>; MOST]) -> Result<Held, 
         return Ok(Held::Absent);
     }
     let (family, rest) = expect::<SetFault>(rest, tag::SEQUENCE)?;
-    let (_, content) = head(family.content, 1)?;
+    let (_, content) = family_after::<SetFault>(family.content, Some(Family::Ipv4))?;
     last_family(content, rest, may, v6)
 }
 
@@ -219,20 +199,20 @@ fn families(
     ensures v6 { v6.new ≡ kept (families_v6 may (octets_of content.entry)) v6.old }
 {
     let (family, rest) = expect::<SetFault>(content, tag::SEQUENCE)?;
-    let (number, inner) = head(family.content, 0)?;
-    if number == 2 {
-        let held = last_family(inner, rest, may, v6)?;
-        return Ok(Addresses {
+    let (first, inner) = family_after::<SetFault>(family.content, None)?;
+    match first {
+        Family::Ipv4 => {
+            let held = read_part(inner, may, v4)?;
+            Ok(Addresses {
+                v4: held,
+                v6: second(rest, may, v6)?,
+            })
+        },
+        Family::Ipv6 => Ok(Addresses {
             v4: Held::Absent,
-            v6: held,
-        });
+            v6: last_family(inner, rest, may, v6)?,
+        }),
     }
-    let first = read_part(inner, may, v4)?;
-    let held = second(rest, may, v6)?;
-    Ok(Addresses {
-        v4: first,
-        v6: held,
-    })
 }
 
 // What the value of the extension for addresses says.
