@@ -86,14 +86,12 @@ addresses-tell m q t (Ok a) e =
 addresses-tell m q t (Err f) e =
     λ u v w. (let x = addresses-are m q u v w in let a = x.0 in let z : ◌≡◌ {A = ℕ} 0 1 = cc in omega arith)
 
+-- the same of tables that hold what was read
 pub addresses-told :
-    (m : May) (q : Octets) (t : Tables) (v4 : List (Range V4)) (v6 : List (Range V6)) (r : Result Addresses SetFault)
-    → reported set_report r ≡ addresses_of m q → v4 ≡ kept (addresses_v4 m q) t.v4 → v6 ≡ kept (addresses_v6 m q) t.v6
-    → Tells (AddressesSay m q) (addresses_listed record { v4 = v4; v6 = v6; asn = t.asn }) r
-addresses-told m q t v4 v6 r e i j =
-    subst (λ (x : List (Range V4)). Tells (AddressesSay m q) (addresses_listed record { v4 = x; v6 = v6; asn = t.asn }) r) (sym i)
-    (subst (λ (x : List (Range V6)). Tells (AddressesSay m q) (addresses_listed record { v4 = kept (addresses_v4 m q) t.v4; v6 = x; asn = t.asn }) r) (sym j)
-    (addresses-tell m q t r e))
+    (m : May) (q : Octets) (t u : Tables) (r : Result Addresses SetFault) → reported set_report r ≡ addresses_of m q
+    → u ≡ address_tables m q t → Tells (AddressesSay m q) (addresses_listed u) r
+addresses-told m q t u r e i =
+    subst (λ (x : Tables). Tells (AddressesSay m q) (addresses_listed x) r) (sym i) (addresses-tell m q t r e)
 
 -- a step that failed
 then_err : {V W : Type 0} {r : Result V Report} {f : Report} (k : V → Result W Report) → r ≡ Err f → then_read r k ≡ Err f

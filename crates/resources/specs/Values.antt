@@ -77,6 +77,10 @@ families_v6 m q =
     read_by (expect_of Set 48 q) (λ s.
     read_by (family_after Set None (inside s.0)) (λ h. v6_from h.0 m h.1 s.1))
 
+-- the tables after a reading: the ranges that were read, and past them what stood there before
+abbrev pub family_tables : May → Octets → Tables → Tables
+family_tables m q t = record { v4 = kept (families_v4 m q) t.v4; v6 = kept (families_v6 m q) t.v6; asn = t.asn }
+
 -- the value of the extension for addresses: one SEQUENCE of families, and nothing after it
 abbrev pub addresses_of : May → Octets → Result Addresses Report
 addresses_of m q =
@@ -101,7 +105,7 @@ abbrev pub asn_ranges : May → Octets → List (Range Asn)
 asn_ranges m q =
     read_by (expect_of Set 48 q) (λ s. read_by (expect_of Set 160 (inside s.0)) (λ a. ranges_of asn_rank asn_entry m (inside a.0)))
 
--- the tables after a reading: the ranges that were read, and past them what stood there before
+-- the tables after a reading of either value
 abbrev pub address_tables : May → Octets → Tables → Tables
 address_tables m q t = record { v4 = kept (addresses_v4 m q) t.v4; v6 = kept (addresses_v6 m q) t.v6; asn = t.asn }
 

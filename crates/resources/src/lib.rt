@@ -15,7 +15,7 @@ ghost use Rattle.lists.specs.Entries.{kept};
 ghost use Rattle.resources.specs.Parts.{allowed, choice_of, held_of, ranges_in, read_part, ranges_of};
 ghost use Rattle.points.specs.Ranks.{v6_rank};
 ghost use Rattle.entries.specs.Kinds.{v6_entry};
-ghost use Rattle.resources.specs.Values.{no_more, last_of, second_of, second_ranges, families_of, families_v4, families_v6, addresses_of, addresses_v4, addresses_v6, address_tables, asn_of, asn_ranges, asn_tables, alone, fresh_tables};
+ghost use Rattle.resources.specs.Values.{no_more, last_of, second_of, second_ranges, families_of, family_tables, addresses_of, address_tables, asn_of, asn_ranges, asn_tables, alone, fresh_tables};
 ghost use Rattle.resources.specs.Meaning.{Tells, AddressesSay, AsnSays, addresses_listed, asn_listed, AddressListIn, AsnListIn, EmptyRefused};
 
 use content::tag;
@@ -188,46 +188,31 @@ fn second(rest: Part<'_>, may: May, v6: &mut [Range<V6>; MOST]) -> Result<Held, 
 }
 
 // What the families in a content say, of which there is at least one.
-fn families(
-    content: Part<'_>,
-    may: May,
-    v4: &mut [Range<V4>; MOST],
-    v6: &mut [Range<V6>; MOST],
-) -> Result<Addresses, SetFault>
+fn families(content: Part<'_>, may: May, tables: &mut Tables) -> Result<Addresses, SetFault>
     ensures value { reported set_report result ≡ families_of may (octets_of content.entry) }
-    ensures v4 { v4.new ≡ kept (families_v4 may (octets_of content.entry)) v4.old }
-    ensures v6 { v6.new ≡ kept (families_v6 may (octets_of content.entry)) v6.old }
+    ensures tables { tables.new ≡ family_tables may (octets_of content.entry) tables.old }
 {
     let (family, rest) = expect::<SetFault>(content, tag::SEQUENCE)?;
     let (first, inner) = family_after::<SetFault>(family.content, None)?;
     match first {
-        Family::Ipv4 => {
-            let held = read_part(inner, may, v4)?;
-            Ok(Addresses {
-                v4: held,
-                v6: second(rest, may, v6)?,
-            })
-        },
+        Family::Ipv4 => Ok(Addresses {
+            v4: read_part(inner, may, &mut tables.v4)?,
+            v6: second(rest, may, &mut tables.v6)?,
+        }),
         Family::Ipv6 => Ok(Addresses {
             v4: Held::Absent,
-            v6: last_family(inner, rest, may, v6)?,
+            v6: last_family(inner, rest, may, &mut tables.v6)?,
         }),
     }
 }
 
 // What the value of the extension for addresses says.
-fn addresses_in(
-    value: Part<'_>,
-    may: May,
-    v4: &mut [Range<V4>; MOST],
-    v6: &mut [Range<V6>; MOST],
-) -> Result<Addresses, SetFault>
+fn addresses_in(value: Part<'_>, may: May, tables: &mut Tables) -> Result<Addresses, SetFault>
     ensures value { reported set_report result ≡ addresses_of may (octets_of value.entry) }
-    ensures v4 { v4.new ≡ kept (addresses_v4 may (octets_of value.entry)) v4.old }
-    ensures v6 { v6.new ≡ kept (addresses_v6 may (octets_of value.entry)) v6.old }
+    ensures tables { tables.new ≡ address_tables may (octets_of value.entry) tables.old }
 {
     let (outer, rest) = expect::<SetFault>(value, tag::SEQUENCE)?;
-    let addresses = families(outer.content, may, v4, v6)?;
+    let addresses = families(outer.content, may, tables)?;
     end::<SetFault>(rest)?;
     Ok(addresses)
 }
@@ -253,7 +238,7 @@ pub fn read_addresses(value: Part<'_>, may: May, tables: &mut Tables) -> Result<
     ensures says { Tells (AddressesSay may (octets_of value.entry)) (addresses_listed tables.new) result }
     ensures empty { EmptyRefused (AddressListIn may (octets_of value.entry)) (reported set_report result) }
 {
-    addresses_in(value, may, &mut tables.v4, &mut tables.v6)
+    addresses_in(value, may, tables)
 }
 
 // Reads the value of the extension for AS numbers, likewise.

@@ -1,4 +1,3 @@
-use Rattle.std.proofs.Common.{rules}
 use Rattle.element.specs.Reading.{octets_of}
 use Rattle.fault.specs.Faults.{set_report, reported}
 use Rattle.resources.proofs.Answered.{addresses-told, addresses_empty}
@@ -11,7 +10,7 @@ returns c =
     let q = octets_of c.args.value in
     record {
       value = f.ensures.value;
-      tables = search rules;
-      says = addresses-told m q c.args.tables.now f.new.v4 f.new.v6 f.result f.ensures.value f.ensures.v4 f.ensures.v6;
+      tables = f.ensures.tables;
+      says = addresses-told m q c.args.tables.now f.new.tables f.result f.ensures.value f.ensures.tables;
       empty = addresses_empty m q (reported set_report f.result) f.ensures.value;
     }
