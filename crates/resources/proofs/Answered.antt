@@ -55,7 +55,7 @@ asn-tells m q t (Ok h) e =
       subst (λ (l : List (Range Asn)). AsnSays m q h l) (sym i) s,
       λ u v w. (let x = asn_is m q u v w in let a = x.0 in (cc, sym x.1 ∙ sym i)),
     )
-asn-tells m q t (Err f) e = λ u v w. (let x = asn_is m q u v w in let a = x.0 in let z : ◌≡◌ {A = ℕ} 0 1 = cc in omega arith)
+asn-tells m q t (Err f) e = λ u v w. (let x = asn_is m q u v w in let a = x.0 in cc)
 
 -- the same of tables that hold what was read
 pub asn-told :
@@ -84,7 +84,7 @@ addresses-tell m q t (Ok a) e =
           (cc, ap (λ (l : List (Range V4)). (l, v.1)) (sym x.1) ∙ ap (λ (l : List (Range V6)). (addresses_v4 m q, l)) (sym x.2) ∙ both)),
     )
 addresses-tell m q t (Err f) e =
-    λ u v w. (let x = addresses-are m q u v w in let a = x.0 in let z : ◌≡◌ {A = ℕ} 0 1 = cc in omega arith)
+    λ u v w. (let x = addresses-are m q u v w in let a = x.0 in cc)
 
 -- the same of tables that hold what was read
 pub addresses-told :

@@ -18,16 +18,16 @@ use Rattle.resources.proofs.Steps.{then_ok, cond_ok}
 use Rattle.resources.proofs.Rows.{Forward}
 
 given_ok : {X : Type 0} (place : ℕ) (o : Option X) (x : X) → Ok x ≡ given place o → o ≡ Some x
-given_ok place None x e = let z : ◌≡◌ {A = ℕ} 0 1 = cc in absurd (omega arith)
+given_ok place None x e = absurd cc
 given_ok place (Some y) x e = cc
 
 some_ok : {X Y : Type 0} (o : Option X) (k : X → Option Y) (y : Y) → then_some o k ≡ Some y → (x : X) × (o ≡ Some x) × (k x ≡ Some y)
-some_ok None k y e = let z : ◌≡◌ {A = ℕ} 0 1 = cc in absurd (omega arith)
+some_ok None k y e = absurd cc
 some_ok (Some x) k y e = (x, refl, e)
 
 cond_some : {X : Type 0} (b : Bool) (x y : X) → cond b (Some x) None ≡ Some y → y ≡ x
 cond_some true x y e = cc
-cond_some false x y e = let z : ◌≡◌ {A = ℕ} 0 1 = cc in absurd (omega arith)
+cond_some false x y e = absurd cc
 
 -- a prefix ends where it begins or later
 high_past : (w : ℕ) (o : List ℕ) (u : ℕ) → low_of w o ≤ high_of w o u
@@ -74,7 +74,7 @@ by-tag :
     → Ok p ≡ cond three x (cond seq y (broken Set Structure place)) → p.0 ≤ p.1
 by-tag true seq x y place p f g e = f e
 by-tag false true x y place p f g e = g e
-by-tag false false x y place p f g e = let z : ◌≡◌ {A = ℕ} 0 1 = cc in absurd (omega arith)
+by-tag false false x y place p f g e = absurd cc
 
 address_forward : (w : ℕ) (e : Seen) (p : ℕ × ℕ) → Ok p ≡ address_entry w e → p.0 ≤ p.1
 address_forward w e p h =
@@ -132,7 +132,7 @@ between-forward rank point is (Ok p) f r e =
     let first : r.first ≡ point p.0 = cc in
     let last : r.last ≡ point p.1 = cc in
     rw (first, last, a, z) l
-between-forward rank point is (Err g) f r e = let z : ◌≡◌ {A = ℕ} 0 1 = cc in absurd (omega arith)
+between-forward rank point is (Err g) f r e = absurd cc
 
 pub v4_forward : Forward v4_rank v4_entry
 v4_forward e r h = between-forward v4_rank v4_of (λ n. refl) (address_entry 32 e) (address_forward 32 e) r h

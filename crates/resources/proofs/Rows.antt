@@ -46,7 +46,7 @@ module _ {P : Type 0} (rank : P → ℕ) (entry : Seen → Result (Range P) Repo
   ordered-ok :
       (before : Option (Range P)) (place : ℕ) (x : Result (Range P) Report) (r : Range P) → Ok r ≡ ordered rank before place x
       → (x ≡ Ok r) × (is_apart rank before r ≡ true)
-  ordered-ok before place (Err f) r e = let z : ◌≡◌ {A = ℕ} 0 1 = cc in absurd (omega arith)
+  ordered-ok before place (Err f) r e = absurd cc
   ordered-ok before place (Ok s) r e =
       let h = cond_ok (is_apart rank before s) Set Order place (Ok s) r e in
       let i : r ≡ s = (let k = h.1 in cc) in
@@ -59,7 +59,7 @@ module _ {P : Type 0} (rank : P → ℕ) (entry : Seen → Result (Range P) Repo
       → (r : Range P) × (ss : List (Range P)) × (y ≡ Ok r) × (more (Some r) q ≡ (ss, Ok tt)) × (r ∷ ss ≡ rs)
   after-ok more q (Err f) rs e =
       let h : Err f ≡ Ok tt = ap (λ (x : Reading P). x.1) e in
-      let z : ◌≡◌ {A = ℕ} 0 1 = cc in absurd (omega arith)
+      absurd cc
   after-ok more q (Ok r) rs e =
       let ss = (more (Some r) q).0 in
       let h : (more (Some r) q).1 ≡ Ok tt = ap (λ (x : Reading P). x.1) e in
@@ -71,7 +71,7 @@ module _ {P : Type 0} (rank : P → ℕ) (entry : Seen → Result (Range P) Repo
       → (p : Seen × Octets) × (x ≡ Ok p) × (after rank entry more p.1 (entry_with rank entry room before p.0) ≡ (rs, Ok tt))
   read_ok more room before (Err f) rs e =
       let h : Err _ ≡ Ok tt = ap (λ (x : Reading P). x.1) e in
-      let z : ◌≡◌ {A = ℕ} 0 1 = cc in absurd (omega arith)
+      absurd cc
   read_ok more room before (Ok p) rs e = (p, refl, e)
 
   -- what a list's entries say where they were read to the end
@@ -82,7 +82,7 @@ module _ {P : Type 0} (rank : P → ℕ) (entry : Seen → Result (Range P) Repo
 
   none_taken : (room : ℕ) (before : Option (Range P)) (q : Octets) (rs : List (Range P)) → length q.octets ≡ 0 → [] ≡ rs → Taken room before q rs
   none_taken room before q [] n e = record { rows = n; few = omega arith; follow = tt }
-  none_taken room before q (r ∷ rs) n e = let z : ◌≡◌ {A = ℕ} 0 1 = cc in absurd (omega arith)
+  none_taken room before q (r ∷ rs) n e = absurd cc
 
   -- every reading by `more` that comes to the end has taken its entries
   abbrev Good : (Option (Range P) → Octets → Reading P) → ℕ → Type 0
@@ -95,7 +95,7 @@ module _ {P : Type 0} (rank : P → ℕ) (entry : Seen → Result (Range P) Repo
   by-test false room before q rs rest i k e = k e
 
   refused_past : (before : Option (Range P)) (e : Seen) (r : Range P) → entry_with rank entry 0 before e ≡ Ok r → ⊥
-  refused_past before e r h = let z : ◌≡◌ {A = ℕ} 0 1 = cc in omega arith
+  refused_past before e r h = cc
 
   taken_none : Good (Left 0) 0
   taken_none before q rs e =

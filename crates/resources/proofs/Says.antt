@@ -24,7 +24,7 @@ abbrev pub Says : ℕ → Type 0
 Says t = (t ≡ 5) ⊎ (t ≡ 48)
 
 any_ok : (x : Result (Seen × Octets) ElementFault) (p : Seen × Octets) → Ok p ≡ any_tag x → x ≡ Ok p
-any_ok (Err f) p e = let z : ◌≡◌ {A = ℕ} 0 1 = cc in absurd (omega arith)
+any_ok (Err f) p e = absurd cc
 any_ok (Ok y) p e = cc
 
 next_ok : (q : Octets) (p : Seen × Octets) → Ok p ≡ next_of Set q → Next q p.0 p.1
@@ -109,7 +109,7 @@ module _ {P : Type 0} (rank : P → ℕ) (entry : Seen → Result (Range P) Repo
       → Ok h ≡ cond null (Ok held.Inherited) (cond empty (broken Set Value e.place) (list_at rank entry e.place (counted (entries_of rank entry 256 None (inside e)))))
       → PartSays rank entry m q h (cond null [] (cond empty [] (entries_of rank entry 256 None (inside e)).0))
   tests-say fw true empty m q e h five other i is = let f = five refl in null-says m q e h f.0 f.1 is
-  tests-say fw false true m q e h five other i is = let z : ◌≡◌ {A = ℕ} 0 1 = cc in absurd (omega arith)
+  tests-say fw false true m q e h five other i is = absurd cc
   tests-say fw false false m q e h five other i is = let f = other refl in list-says fw m q e h f.0 f.1 i is
 
   only_null : (m : May) (q : Octets) (p : Seen × Octets) → Chosen m q p → Ended p.1 → eqb p.0.tag 5 ≡ true → Only q 5 p.0 × (allowed m 5 ≡ true)

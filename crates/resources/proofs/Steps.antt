@@ -15,21 +15,21 @@ pub then_ok :
     {V W : Type 0} (r : Result V Report) (k : V → Result W Report) (w : W) → Ok w ≡ then_read r k
     → (v : V) × (r ≡ Ok v) × (Ok w ≡ k v)
 then_ok (Ok v) k w e = (v, refl, e)
-then_ok (Err f) k w e = let z : ◌≡◌ {A = ℕ} 0 1 = cc in absurd (omega arith)
+then_ok (Err f) k w e = absurd cc
 
 -- a test that has to pass
 pub cond_ok : {W : Type 0} (b : Bool) (l : Layer) (u : Rule) (p : ℕ) (x : Result W Report) (w : W) → Ok w ≡ cond b x (broken l u p) → (b ≡ true) × (Ok w ≡ x)
 cond_ok true l u p x w e = (refl, e)
-cond_ok false l u p x w e = let z : ◌≡◌ {A = ℕ} 0 1 = cc in absurd (omega arith)
+cond_ok false l u p x w e = absurd cc
 
 -- a test that has to fail
 pub cond_not : {W : Type 0} (b : Bool) (l : Layer) (u : Rule) (p : ℕ) (x : Result W Report) (w : W) → Ok w ≡ cond b (broken l u p) x → (b ≡ false) × (Ok w ≡ x)
-cond_not true l u p x w e = let z : ◌≡◌ {A = ℕ} 0 1 = cc in absurd (omega arith)
+cond_not true l u p x w e = absurd cc
 cond_not false l u p x w e = (refl, e)
 
 -- an element stands only in octets that are not at their end
 next_some : (s : List ℕ) (at : ℕ) (e : Seen) (after : Octets) → read_of s at ≡ Ok (e, after) → length s ≡ 0 → ⊥
-next_some [] at e after n h = let z : ◌≡◌ {A = ℕ} 0 1 = cc in omega arith
+next_some [] at e after n h = cc
 next_some (x ∷ s) at e after n h = omega arith
 
 pub not_ended : (q : Octets) (e : Seen) (after : Octets) → Next q e after → Ended q → ⊥
@@ -38,7 +38,7 @@ not_ended q e after n h = next_some q.octets q.place e after n h
 tagged_ok :
     (l : Layer) (t : ℕ) (r : Result (Seen × Octets) ElementFault) (p : Seen × Octets) → Ok p ≡ tagged l t r
     → (r ≡ Ok p) × (p.0.tag ≡ t)
-tagged_ok l t (Err f) p e = let z : ◌≡◌ {A = ℕ} 0 1 = cc in absurd (omega arith)
+tagged_ok l t (Err f) p e = absurd cc
 tagged_ok l t (Ok x) p e =
     let h = cond_ok (eqb x.0.tag t) l Structure x.0.place (Ok x) p e in
     let i : p ≡ x = (let k = h.1 in cc) in
@@ -59,8 +59,8 @@ expect-is l t q e after n is =
     ∙ cond-true (eqb e.tag t) _ _ (eq-eqb _ _ is)
 
 surplus_never : (l : Layer) (r : Result (Seen × Octets) ElementFault) → Ok tt ≡ surplus l r → ⊥
-surplus_never l (Err f) e = let z : ◌≡◌ {A = ℕ} 0 1 = cc in omega arith
-surplus_never l (Ok p) e = let z : ◌≡◌ {A = ℕ} 0 1 = cc in omega arith
+surplus_never l (Err f) e = cc
+surplus_never l (Ok p) e = cc
 
 end_by : (b : Bool) (n : ℕ) (l : Layer) (r : Result (Seen × Octets) ElementFault) → b ≡ eqb n 0 → Ok tt ≡ cond b (Ok tt) (surplus l r) → n ≡ 0
 end_by true n l r i e = eqb-true n 0 (sym i)

@@ -1,5 +1,5 @@
 -- What the values of the two extensions say, and what reading them answers. Assumes nothing.
-use Rattle.std.proofs.Common.{◌≡◌, ℕ, Bool, true, false, cond, eqb, ◌⊎◌, List, [], length, Some, None, Ok, Option, Result, sym, refl, ap, ◌∙◌, subst, inl, inr, arith}
+use Rattle.std.proofs.Common.{◌≡◌, ℕ, Bool, true, false, cond, eqb, ◌⊎◌, List, [], length, Some, None, Ok, Option, Result, sym, refl, ap, ◌∙◌, subst, inl, inr}
 use Rattle.std.proofs.lemmas.Bool.{cond-true, cond-false, eq-eqb, ne_eqb, eqb-true}
 use Rattle.std.specs.Str.{bytes_eq}
 use Rattle.std.proofs.lemmas.Slice.Eq.{bytes_eq-Decides}
@@ -76,7 +76,7 @@ named_by :
     → cond a (Some Ipv4) (cond b (Some Ipv6) None) ≡ Some f → s ≡ name_of f
 named_by s true b f u v e = let i : Ipv4 ≡ f = cc in u refl ∙ ap name_of i
 named_by s false true f u v e = let i : Ipv6 ≡ f = cc in v refl ∙ ap name_of i
-named_by s false false f u v e = let z : ◌≡◌ {A = ℕ} 0 1 = cc in absurd (omega arith)
+named_by s false false f u v e = cc
 
 name_octets : (s : List ℕ) (f : Family) → family_named s ≡ Some f → s ≡ name_of f
 name_octets s f e =
@@ -91,7 +91,7 @@ names_family Ipv6 = refl
 in_order_ok :
     (b : Option Family) (place : ℕ) (q : Octets) (o : Option Family) (x : Family × Octets) → Ok x ≡ in_order Set b place q o
     → (o ≡ Some x.0) × (q ≡ x.1) × (follows b x.0 ≡ true)
-in_order_ok b place q None x e = let z : ◌≡◌ {A = ℕ} 0 1 = cc in absurd (omega arith)
+in_order_ok b place q None x e = absurd cc
 in_order_ok b place q (Some f) x e =
     let t = cond_ok (follows b f) Set Value place (Ok (f, q)) x e in
     let i : (f, q) ≡ x = (let k = t.1 in cc) in
@@ -100,11 +100,11 @@ in_order_ok b place q (Some f) x e =
 
 -- only IPv6 follows IPv4, and nothing IPv6
 after_v4 : (f : Family) → follows (Some Ipv4) f ≡ true → f ≡ Ipv6
-after_v4 Ipv4 e = let z : ◌≡◌ {A = ℕ} 0 1 = cc in absurd (omega arith)
+after_v4 Ipv4 e = absurd cc
 after_v4 Ipv6 e = refl
 
 after_v6 : (f : Family) → follows (Some Ipv6) f ≡ true → ⊥
-after_v6 f e = let z : ◌≡◌ {A = ℕ} 0 1 = cc in omega arith
+after_v6 f e = cc
 
 -- a family that was read stands there
 at_ok :
