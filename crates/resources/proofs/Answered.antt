@@ -109,11 +109,11 @@ first-empty :
     → length e.content ≡ 0 → families_of m q ≡ broken Set Value e.place
 first-empty m q e Ipv4 p after f l none =
     let a = at-is Ipv4 None q p after f refl in
-    then_at _ a.0 ∙ then_at _ a.1 ∙ then_err _ (empty-refused v4_rank v4_entry m p e l.after l.next l.tagged none)
+    then_at _ a ∙ then_err _ (empty-refused v4_rank v4_entry m p e l.after l.next l.tagged none)
 first-empty m q e Ipv6 p after f l none =
     let a = at-is Ipv6 None q p after f refl in
     let last : last_of m p after ≡ broken Set Value e.place = then_err _ (empty-refused v6_rank v6_entry m p e l.after l.next l.tagged none) in
-    then_at _ a.0 ∙ then_at _ a.1 ∙ then_err _ last
+    then_at _ a ∙ then_err _ last
 
 second_empty :
     (m : May) (q : Octets) (e : Seen) (h : Held) (rs : List (Range V4)) (middle p after : Octets) → FamilySays v4_rank v4_entry m Ipv4 q h rs middle
@@ -123,9 +123,9 @@ second_empty m q e h rs middle p after f g l none =
     let v4 = part-is v4_rank v4_entry m f.inner h rs f.part in
     let b = at-is Ipv6 (Some Ipv4) middle p after g refl in
     let t : eqb (length middle.octets) 0 ≡ false = ne_eqb _ _ (not_ended middle g.family after g.first) in
-    then_at _ a.0 ∙ then_at _ a.1 ∙ then_at _ v4.0
+    then_at _ a ∙ then_at _ v4.0
     ∙ then_err _ (cond-false (eqb (length middle.octets) 0) (Ok held.Absent) (second_read m middle) t
-    ∙ then_at _ b.0 ∙ then_at _ b.1 ∙ then_err _ (empty-refused v6_rank v6_entry m p e l.after l.next l.tagged none))
+    ∙ then_at _ b ∙ then_err _ (empty-refused v6_rank v6_entry m p e l.after l.next l.tagged none))
 
 families_empty : (m : May) (q : Octets) (e : Seen) → FamiliesListIn m q e → length e.content ≡ 0 → families_of m q ≡ broken Set Value e.place
 families_empty m q e (inl x) none = first-empty m q e x.0 x.1 x.2 x.3 x.4 none

@@ -23,7 +23,7 @@ use Rattle.resources.specs.declared.Held.TheVariants as held
 use Rattle.resources.specs.declared.Addresses.{Addresses}
 use Rattle.resources.specs.declared.May.{May}
 use Rattle.resources.specs.Parts.{read_by, read_part, ranges_of}
-use Rattle.resources.specs.Values.{further, no_more, last_of, second_of, second_ranges, from_first, families_of, v4_first, families_v4, v6_from, families_v6, addresses_of, addresses_v4, addresses_v6, asn_of, asn_ranges}
+use Rattle.resources.specs.Values.{next_family, further, no_more, last_of, second_of, second_ranges, from_first, families_of, v4_first, families_v4, v6_from, families_v6, addresses_of, addresses_v4, addresses_v6, asn_of, asn_ranges}
 use Rattle.resources.specs.Meaning.{Ended, PartSays, AsnSays, name_of, FamilyAt, FamilySays, Optional, FamiliesSay, AddressesSay}
 use Rattle.resources.proofs.Steps.{then_ok, cond_ok, not_ended, expect-ok, expect-is, end_ok, end_is}
 use Rattle.resources.proofs.Forwards.{v4_forward, v6_forward, asn_forward}
@@ -106,46 +106,51 @@ after_v4 Ipv6 e = refl
 after_v6 : (f : Family) → follows (Some Ipv6) f ≡ true → ⊥
 after_v6 f e = cc
 
+abbrev Found : Type 0
+Found = Family × Octets × Octets
+
 -- a family that was read stands there
 at_ok :
-    (q : Octets) (s : Seen × Octets) (b : Option Family) (x : Family × Octets) → expect_of Set 48 q ≡ Ok s
-    → family_after Set b (inside s.0) ≡ Ok x → FamilyAt x.0 q x.1 s.1 × (follows b x.0 ≡ true)
-at_ok q s b x e f =
-    let outer = expect-ok Set 48 q s (sym e) in
-    let a = then_ok (expect_of Set 4 (inside s.0)) _ x (sym f) in
+    (q : Octets) (b : Option Family) (x : Found) → Ok x ≡ next_family b q → FamilyAt x.0 q x.1 x.2 × (follows b x.0 ≡ true)
+at_ok q b x e =
+    let s = then_ok (expect_of Set 48 q) _ x e in
+    let family = s.0.0 in
+    let outer = expect-ok Set 48 q s.0 (sym s.1) in
+    let h = then_ok (family_after Set b (inside family)) _ x s.2 in
+    let a = then_ok (expect_of Set 4 (inside family)) _ h.0 (sym h.1) in
     let name = a.0.0 in
-    let inner = expect-ok Set 4 (inside s.0) a.0 (sym a.1) in
-    let t = in_order_ok b name.place a.0.1 (family_named name.content) x a.2 in (
+    let inner = expect-ok Set 4 (inside family) a.0 (sym a.1) in
+    let t = in_order_ok b name.place a.0.1 (family_named name.content) h.0 a.2 in
+    let i : (h.0.0, h.0.1, s.0.1) ≡ x = (let k = h.2 in cc) in
+    subst (λ (y : Found). FamilyAt y.0 q y.1 y.2 × (follows b y.0 ≡ true)) i (
       record {
-        family = s.0;
+        family = family;
         name = name;
         first = outer.0;
         tagged = outer.1;
         named = inner.0 ∙ ap (λ (y : Octets). Ok (name, y)) t.1;
         octets = inner.1;
-        names = name_octets name.content x.0 t.0;
+        names = name_octets name.content h.0.0 t.0;
       },
       t.2,
     )
 
 -- a family that stands there is read
 pub at-is :
-    (g : Family) (b : Option Family) (q p after : Octets) (f : FamilyAt g q p after) → follows b g ≡ true
-    → (expect_of Set 48 q ≡ Ok (f.family, after)) × (family_after Set b (inside f.family) ≡ Ok (g, p))
+    (g : Family) (b : Option Family) (q p after : Octets) → FamilyAt g q p after → follows b g ≡ true → next_family b q ≡ Ok (g, p, after)
 at-is g b q p after f past =
-    let i : family_named f.name.content ≡ Some g = ap family_named f.names ∙ names_family g in (
-      expect-is Set 48 q f.family after f.first f.tagged,
-      then_at _ (expect-is Set 4 (inside f.family) f.name p f.named f.octets)
-          ∙ ap (in_order Set b f.name.place p) i
-          ∙ cond-true (follows b g) _ _ past,
-    )
+    let i : family_named f.name.content ≡ Some g = ap family_named f.names ∙ names_family g in
+    let named : family_after Set b (inside f.family) ≡ Ok (g, p) =
+    then_at _ (expect-is Set 4 (inside f.family) f.name p f.named f.octets)
+    ∙ ap (in_order Set b f.name.place p) i
+    ∙ cond-true (follows b g) _ _ past in
+    then_at _ (expect-is Set 48 q f.family after f.first f.tagged) ∙ then_at _ named
 
 no_more_by : (b : Bool) (q : Octets) → b ≡ eqb (length q.octets) 0 → Ok tt ≡ cond b (Ok tt) (further q) → Ended q
 no_more_by true q i e = eqb-true _ _ (sym i)
 no_more_by false q i e =
-    let a = then_ok (expect_of Set 48 q) _ tt e in
-    let c = then_ok (family_after Set (Some Ipv6) (inside a.0.0)) _ tt a.2 in
-    absurd (after_v6 c.0.0 (at_ok q a.0 (Some Ipv6) c.0 a.1 c.1).1)
+    let a = then_ok (next_family (Some Ipv6) q) _ tt e in
+    absurd (after_v6 a.0.0 (at_ok q (Some Ipv6) a.0 (sym a.1)).1)
 
 -- nothing follows IPv6
 no_more_ok : (q : Octets) → Ok tt ≡ no_more q → Ended q
@@ -196,12 +201,10 @@ v6_read m q p after h f e n =
     }
 
 abbrev pub second_read : May → Octets → Result Held Report
-second_read m q =
-    then_read (expect_of Set 48 q) (λ s.
-    then_read (family_after Set (Some Ipv4) (inside s.0)) (λ h. last_of m h.1 s.1))
+second_read m q = then_read (next_family (Some Ipv4) q) (λ h. last_of m h.1 h.2)
 
-abbrev second_kept : May → Octets → List (Range V6)
-second_kept m q = read_by (expect_of Set 48 q) (λ s. read_by (family_after Set (Some Ipv4) (inside s.0)) (λ h. ranges_of v6_rank v6_entry m h.1))
+abbrev pub second_kept : May → Octets → List (Range V6)
+second_kept m q = read_by (next_family (Some Ipv4) q) (λ h. ranges_of v6_rank v6_entry m h.1)
 
 second-by :
     (b : Bool) (m : May) (q : Octets) (h : Held) → b ≡ eqb (length q.octets) 0 → Ok h ≡ cond b (Ok held.Absent) (second_read m q)
@@ -210,19 +213,15 @@ second-by true m q h i e =
     let a : held.Absent ≡ h = cc in
     subst (λ (y : Held). Second m q y []) a (record { after = q; said = (refl, refl); ended = eqb-true _ _ (sym i) })
 second-by false m q h i e =
-    let a = then_ok (expect_of Set 48 q) _ h e in
-    let s = a.0 in
-    let b = then_ok (family_after Set (Some Ipv4) (inside s.0)) _ h a.2 in
+    let b = then_ok (next_family (Some Ipv4) q) _ h e in
     let x = b.0 in
     let c = then_ok (read_part v6_rank v6_entry m x.1) _ h b.2 in
-    let d = then_ok (no_more s.1) _ h c.2 in
-    let f = at_ok q s (Some Ipv4) x a.1 b.1 in
-    let g : FamilyAt Ipv6 q x.1 s.1 = subst (λ (k : Family). FamilyAt k q x.1 s.1) (after_v4 x.0 f.1) f.0 in
-    let rs : ranges_of v6_rank v6_entry m x.1 ≡ second_kept m q =
-    sym (by_at (λ s. read_by (family_after Set (Some Ipv4) (inside s.0)) (λ h. ranges_of v6_rank v6_entry m h.1)) a.1
-    ∙ by_at (λ h. ranges_of v6_rank v6_entry m h.1) b.1) in
+    let d = then_ok (no_more x.2) _ h c.2 in
+    let f = at_ok q (Some Ipv4) x (sym b.1) in
+    let g : FamilyAt Ipv6 q x.1 x.2 = subst (λ (k : Family). FamilyAt k q x.1 x.2) (after_v4 x.0 f.1) f.0 in
+    let rs : ranges_of v6_rank v6_entry m x.1 ≡ second_kept m q = sym (by_at (λ h. ranges_of v6_rank v6_entry m h.1) b.1) in
     subst (λ (y : List (Range V6)). Second m q h y) rs
-    (v6_read m q x.1 s.1 h g (d.2 ∙ sym c.1) (no_more_ok s.1 (sym d.1)))
+    (v6_read m q x.1 x.2 h g (d.2 ∙ sym c.1) (no_more_ok x.2 (sym d.1)))
 
 second_says : (m : May) (q : Octets) (h : Held) → Ok h ≡ second_of m q → Second m q h (second_ranges m q)
 second_says m q h e = second-by (eqb (length q.octets) 0) m q h refl e
@@ -242,8 +241,8 @@ second_is m q h rs after (inr f) n =
     let p = part-is v6_rank v6_entry m f.inner h rs f.part in
     let t : eqb (length q.octets) 0 ≡ false = ne_eqb _ _ (not_ended q f.stands.family after f.stands.first) in (
       cond-false (eqb (length q.octets) 0) (Ok held.Absent) (second_read m q) t
-          ∙ then_at _ a.0 ∙ then_at _ a.1 ∙ then_at _ p.0 ∙ then_at _ (no_more_is after n),
-      cond-false (eqb (length q.octets) 0) [] (second_kept m q) t ∙ by_at _ a.0 ∙ by_at _ a.1 ∙ p.1,
+          ∙ then_at _ a ∙ then_at _ p.0 ∙ then_at _ (no_more_is after n),
+      cond-false (eqb (length q.octets) 0) [] (second_kept m q) t ∙ by_at _ a ∙ p.1,
     )
 
 -- the families by the first of them
@@ -286,18 +285,14 @@ families-by Ipv4 m q p after a f e =
 
 families_say : (m : May) (q : Octets) (a : Addresses) → Ok a ≡ families_of m q → FamiliesSay m q a (families_v4 m q, families_v6 m q)
 families_say m q a e =
-    let b = then_ok (expect_of Set 48 q) _ a e in
-    let s = b.0 in
-    let c = then_ok (family_after Set None (inside s.0)) _ a b.2 in
+    let c = then_ok (next_family None q) _ a e in
     let x = c.0 in
-    let f = at_ok q s None x b.1 c.1 in
-    let v4 : v4_first x.0 m x.1 ≡ families_v4 m q =
-    sym (by_at (λ s. read_by (family_after Set None (inside s.0)) (λ h. v4_first h.0 m h.1)) b.1 ∙ by_at (λ h. v4_first h.0 m h.1) c.1) in
-    let v6 : v6_from x.0 m x.1 s.1 ≡ families_v6 m q =
-    sym (by_at (λ s. read_by (family_after Set None (inside s.0)) (λ h. v6_from h.0 m h.1 s.1)) b.1 ∙ by_at (λ h. v6_from h.0 m h.1 s.1) c.1) in
+    let f = at_ok q None x (sym c.1) in
+    let v4 : v4_first x.0 m x.1 ≡ families_v4 m q = sym (by_at (λ h. v4_first h.0 m h.1) c.1) in
+    let v6 : v6_from x.0 m x.1 x.2 ≡ families_v6 m q = sym (by_at (λ h. v6_from h.0 m h.1 h.2) c.1) in
     subst (λ (l : List (Range V4)). FamiliesSay m q a (l, families_v6 m q)) v4
     (subst (λ (l : List (Range V6)). FamiliesSay m q a (v4_first x.0 m x.1, l)) v6
-    (families-by x.0 m q x.1 s.1 a f.0 c.2))
+    (families-by x.0 m q x.1 x.2 a f.0 c.2))
 
 abbrev Read : May → Octets → Held → Held → List (Range V4) → List (Range V6) → Type 0
 Read m q h k rs4 rs6 = (families_of m q ≡ Ok record { v4 = h; v6 = k }) × (families_v4 m q ≡ rs4) × (families_v6 m q ≡ rs6)
@@ -311,9 +306,9 @@ v4-is m q middle after h k rs4 rs6 f o n =
     let a = at-is Ipv4 None q f.inner middle f.stands refl in
     let p = part-is v4_rank v4_entry m f.inner h rs4 f.part in
     let z = second_is m middle k rs6 after o n in (
-      then_at _ a.0 ∙ then_at _ a.1 ∙ then_at _ p.0 ∙ then_at _ z.0,
-      by_at _ a.0 ∙ by_at _ a.1 ∙ p.1,
-      by_at _ a.0 ∙ by_at _ a.1 ∙ by_at _ p.0 ∙ z.1,
+      then_at _ a ∙ then_at _ p.0 ∙ then_at _ z.0,
+      by_at _ a ∙ p.1,
+      by_at _ a ∙ by_at _ p.0 ∙ z.1,
     )
 
 -- IPv6 alone
@@ -324,9 +319,9 @@ v6_is m q after k rs6 f n =
     let a = at-is Ipv6 None q f.inner after f.stands refl in
     let p = part-is v6_rank v6_entry m f.inner k rs6 f.part in
     let last : last_of m f.inner after ≡ Ok k = then_at _ p.0 ∙ then_at _ (no_more_is after n) in (
-      then_at _ a.0 ∙ then_at _ a.1 ∙ then_at _ last,
-      by_at _ a.0 ∙ by_at _ a.1,
-      by_at _ a.0 ∙ by_at _ a.1 ∙ p.1,
+      then_at _ a ∙ then_at _ last,
+      by_at _ a,
+      by_at _ a ∙ p.1,
     )
 
 absent-v4 :

@@ -1,5 +1,5 @@
 -- The values of the two resource extensions (RFC 3779 2.2.3 and 3.2.3). Assumes nothing.
-use Rattle.std.specs.Prelude.{ℕ, cond, List, [], length, replicate, Some, None, Ok, Result, ◌==◌}
+use Rattle.std.specs.Prelude.{ℕ, cond, List, [], length, replicate, Some, None, Ok, Option, Result, ◌==◌}
 use Rattle.fault.specs.declared.Layer.TheVariants.{Set}
 use Rattle.fault.specs.declared.Report.{Report}
 use Rattle.family.specs.declared.Family.{Family}
@@ -22,9 +22,14 @@ use Rattle.resources.specs.declared.May.{May}
 use Rattle.resources.specs.declared.Tables.{Tables}
 use Rattle.resources.specs.Parts.{read_by, read_part, ranges_of}
 
+-- the next family, which stands after the one before it: which it is, what is said of it, and the octets after it
+abbrev pub next_family : Option Family → Octets → Result (Family × Octets × Octets) Report
+next_family before q =
+    then_read (expect_of Set 48 q) (λ s. then_read (family_after Set before (inside s.0)) (λ h. Ok (h.0, h.1, s.1)))
+
 -- a family after IPv6, whose name does not ascend
 abbrev pub further : Octets → Result (Unit {0}) Report
-further q = then_read (expect_of Set 48 q) (λ s. then_read (family_after Set (Some Ipv6) (inside s.0)) (λ _. Ok tt))
+further q = then_read (next_family (Some Ipv6) q) (λ _. Ok tt)
 
 -- no family follows IPv6
 abbrev pub no_more : Octets → Result (Unit {0}) Report
@@ -37,14 +42,11 @@ last_of m p q = then_read (read_part v6_rank v6_entry m p) (λ v6. then_read (no
 -- what is said of IPv6 after IPv4
 abbrev pub second_of : May → Octets → Result Held Report
 second_of m q =
-    cond (length q.octets == 0) (Ok held.Absent)
-    (then_read (expect_of Set 48 q) (λ s.
-    then_read (family_after Set (Some Ipv4) (inside s.0)) (λ h. last_of m h.1 s.1)))
+    cond (length q.octets == 0) (Ok held.Absent) (then_read (next_family (Some Ipv4) q) (λ h. last_of m h.1 h.2))
 
 abbrev pub second_ranges : May → Octets → List (Range V6)
 second_ranges m q =
-    cond (length q.octets == 0) []
-    (read_by (expect_of Set 48 q) (λ s. read_by (family_after Set (Some Ipv4) (inside s.0)) (λ h. ranges_of v6_rank v6_entry m h.1)))
+    cond (length q.octets == 0) [] (read_by (next_family (Some Ipv4) q) (λ h. ranges_of v6_rank v6_entry m h.1))
 
 -- the first family, said by the octets p, and what follows it: IPv6 may follow IPv4
 abbrev pub from_first : Family → May → Octets → Octets → Result Addresses Report
@@ -54,9 +56,7 @@ from_first Ipv6 m p q = then_read (last_of m p q) (λ v6. Ok record { v4 = held.
 
 -- what the families in some octets say: at least one, in ascending order
 abbrev pub families_of : May → Octets → Result Addresses Report
-families_of m q =
-    then_read (expect_of Set 48 q) (λ s.
-    then_read (family_after Set None (inside s.0)) (λ h. from_first h.0 m h.1 s.1))
+families_of m q = then_read (next_family None q) (λ h. from_first h.0 m h.1 h.2)
 
 -- the ranges of each kind that are read there
 abbrev pub v4_first : Family → May → Octets → List (Range V4)
@@ -64,18 +64,14 @@ v4_first Ipv4 m p = ranges_of v4_rank v4_entry m p
 v4_first Ipv6 m p = []
 
 abbrev pub families_v4 : May → Octets → List (Range V4)
-families_v4 m q =
-    read_by (expect_of Set 48 q) (λ s.
-    read_by (family_after Set None (inside s.0)) (λ h. v4_first h.0 m h.1))
+families_v4 m q = read_by (next_family None q) (λ h. v4_first h.0 m h.1)
 
 abbrev pub v6_from : Family → May → Octets → Octets → List (Range V6)
 v6_from Ipv4 m p q = read_by (read_part v4_rank v4_entry m p) (λ _. second_ranges m q)
 v6_from Ipv6 m p q = ranges_of v6_rank v6_entry m p
 
 abbrev pub families_v6 : May → Octets → List (Range V6)
-families_v6 m q =
-    read_by (expect_of Set 48 q) (λ s.
-    read_by (family_after Set None (inside s.0)) (λ h. v6_from h.0 m h.1 s.1))
+families_v6 m q = read_by (next_family None q) (λ h. v6_from h.0 m h.1 h.2)
 
 -- the tables after a reading: the ranges that were read, and past them what stood there before
 abbrev pub family_tables : May → Octets → Tables → Tables

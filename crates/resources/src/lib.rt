@@ -15,7 +15,7 @@ ghost use Rattle.lists.specs.Entries.{kept};
 ghost use Rattle.resources.specs.Parts.{allowed, choice_of, held_of, ranges_in, read_part, ranges_of};
 ghost use Rattle.points.specs.Ranks.{v6_rank};
 ghost use Rattle.entries.specs.Kinds.{v6_entry};
-ghost use Rattle.resources.specs.Values.{no_more, last_of, second_of, second_ranges, families_of, family_tables, addresses_of, address_tables, asn_of, asn_ranges, asn_tables, alone, fresh_tables};
+ghost use Rattle.resources.specs.Values.{next_family, no_more, last_of, second_of, second_ranges, families_of, family_tables, addresses_of, address_tables, asn_of, asn_ranges, asn_tables, alone, fresh_tables};
 ghost use Rattle.resources.specs.Meaning.{Tells, AddressesSay, AsnSays, addresses_listed, asn_listed, AddressListIn, AsnListIn, EmptyRefused};
 
 use content::tag;
@@ -147,6 +147,18 @@ fn read_part<P: Resource>(
     Ok(held)
 }
 
+// The next family, which has to stand after the one before it: which it is, what is said of it, and the octets after it.
+fn next_family<'a>(
+    input: Part<'a>,
+    before: Option<Family>,
+) -> Result<(Family, Part<'a>, Part<'a>), SetFault>
+    ensures value { told_by set_report (λ h. (h.0, octets_of h.1, octets_of h.2)) result ≡ next_family before (octets_of input.entry) }
+{
+    let (family, rest) = expect::<SetFault>(input, tag::SEQUENCE)?;
+    let (which, said) = family_after::<SetFault>(family.content, before)?;
+    Ok((which, said, rest))
+}
+
 // No family after IPv6: one that stands there is refused where its name is read.
 fn no_more(rest: Part<'_>) -> Result<(), SetFault>
     ensures { reported set_report result ≡ no_more (octets_of rest.entry) }
@@ -154,8 +166,7 @@ fn no_more(rest: Part<'_>) -> Result<(), SetFault>
     if rest.octets.is_empty() {
         return Ok(());
     }
-    let (family, _) = expect::<SetFault>(rest, tag::SEQUENCE)?;
-    family_after::<SetFault>(family.content, Some(Family::Ipv6))?;
+    next_family(rest, Some(Family::Ipv6))?;
     Ok(())
 }
 
@@ -182,9 +193,8 @@ fn second(rest: Part<'_>, may: May, v6: &mut [Range<V6>; MOST]) -> Result<Held, 
     if rest.octets.is_empty() {
         return Ok(Held::Absent);
     }
-    let (family, rest) = expect::<SetFault>(rest, tag::SEQUENCE)?;
-    let (_, content) = family_after::<SetFault>(family.content, Some(Family::Ipv4))?;
-    last_family(content, rest, may, v6)
+    let (_, said, after) = next_family(rest, Some(Family::Ipv4))?;
+    last_family(said, after, may, v6)
 }
 
 // What the families in a content say, of which there is at least one.
@@ -192,16 +202,15 @@ fn families(content: Part<'_>, may: May, tables: &mut Tables) -> Result<Addresse
     ensures value { reported set_report result ≡ families_of may (octets_of content.entry) }
     ensures tables { tables.new ≡ family_tables may (octets_of content.entry) tables.old }
 {
-    let (family, rest) = expect::<SetFault>(content, tag::SEQUENCE)?;
-    let (first, inner) = family_after::<SetFault>(family.content, None)?;
+    let (first, said, rest) = next_family(content, None)?;
     match first {
         Family::Ipv4 => Ok(Addresses {
-            v4: read_part(inner, may, &mut tables.v4)?,
+            v4: read_part(said, may, &mut tables.v4)?,
             v6: second(rest, may, &mut tables.v6)?,
         }),
         Family::Ipv6 => Ok(Addresses {
             v4: Held::Absent,
-            v6: last_family(inner, rest, may, &mut tables.v6)?,
+            v6: last_family(said, rest, may, &mut tables.v6)?,
         }),
     }
 }
