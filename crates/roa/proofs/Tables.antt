@@ -31,10 +31,6 @@ pub unstored :
     → Err x ≡ row_step f base (take count table) e
 unstored f base count table e x few i = sym (stepped f base count table e (Err x) few i)
 
--- what stood past the rows before stands past one more
-pub past_more : {X : Type 0} (n : ℕ) (xs ys : List X) → drop n xs ≡ drop n ys → drop (n + 1) xs ≡ drop (n + 1) ys
-past_more n xs ys e = sym (drop-drop 1 n xs) ∙ ap (drop 1) e ∙ drop-drop 1 n ys
-
 pub under : (base count : ℕ) → base ≤ count → count - base < 256 → count < base + 256
 under base count h k = omega arith
 

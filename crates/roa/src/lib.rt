@@ -14,14 +14,18 @@ ghost use Rattle.element.specs.Reading.{seen, octets_of};
 ghost use Rattle.layout.specs.Expecting.{told_by};
 ghost use Rattle.layout.specs.Rows.{rows_of};
 ghost use Rattle.roa.specs.Roas.{family_rows, family_step, nothing_known, families_of, body_of, roa_of, roa_seen, known_seen, most_rows};
+ghost use Rattle.roa.specs.Filling.{Filled, filled_in, fill_step};
 ghost use Rattle.roa.specs.Rows.{top_of, prefix_of, prefix_seen, prefix_at, max_of, max_at, row_of, row_in, row_step, some_rows};
+
+mod family_rows;
 
 use content::{read_bit_string, tag};
 use element::{Element, Part, read};
 use families::family_after;
+use family_rows::FamilyRows;
 use fault::Rule;
 use file_faults::ContentFault;
-use layout::{LayerFault, end, expect};
+use layout::{LayerFault, Row, end, expect};
 use payload::{Family, Prefix};
 use prefixes::low_end;
 
@@ -136,22 +140,30 @@ fn counted_row(row: &Element<'_>, family: Family, before: usize) -> Result<RoaRo
     read_row(row.content, family)
 }
 
-// Writes the row in an element into the table, where `count` rows stand before it, the first `base` of them of another family.
-fn take_row(
-    row: &Element<'_>,
-    family: Family,
-    base: usize,
-    count: usize,
-    table: &mut [RoaRow; ROWS],
-) -> Result<(), ContentFault>
-    requires count { (base ≤ 256) × (base ≤ count) × (count ≤ base + 256) }
-    ensures value { told_by content_report (λ _. take (count + 1) table.new) result ≡ row_step family base (take count table.old) (seen row.now) }
-    ensures past { drop (count + 1) table.new ≡ drop (count + 1) table.old }
-    ensures room { OnOk result (count < base + 256) }
-{
-    let row = counted_row(row, family, count - base)?;
-    table[count] = row;
-    Ok(())
+impl<'a> Row<'a, ContentFault> for FamilyRows<'_> {
+    ghost Known = { Filled };
+
+    ghost view = { filled_in };
+
+    ghost step = { fill_step };
+
+    // Writes the row in an element into the table.
+    fn take(self, row: &Element<'a>) -> Result<Self, ContentFault> {
+        let FamilyRows {
+            family,
+            base,
+            count,
+            table,
+        } = self;
+        let row = counted_row(row, family, count - base)?;
+        table[count] = row;
+        Ok(FamilyRows {
+            family,
+            base,
+            count: count + 1,
+            table,
+        })
+    }
 }
 
 // Reads the rows of a family into the table, where `base` rows of another stand before them, and answers how many stand there then.
@@ -165,14 +177,19 @@ fn read_rows(
     ensures value { told_by content_report (λ n. take n table.new) result ≡ rows_of (row_step family base) (take base table.old) (octets_of content.entry) }
     ensures past { IfOk result (λ n. (base ≤ n) × (n ≤ base + 256) × (drop n table.new ≡ drop n table.old)) }
 {
-    let mut rest = content;
-    let mut count = base;
-    while !rest.octets.is_empty() {
-        let (row, following) = read(rest)?;
-        take_row(&row, family, base, count, table)?;
-        count += 1;
-        rest = following;
-    }
+    let start = FamilyRows {
+        family,
+        base,
+        count: base,
+        table,
+    };
+    let rows = layout::read_rows::<ContentFault, FamilyRows<'_>>(content, start)?;
+    // the table is taken out of the rows, and its loan ends here
+    let FamilyRows {
+        count,
+        table: _table,
+        ..
+    } = rows;
     Ok(count)
 }
 
