@@ -1,2 +1,3 @@
 mod Tables
 mod Filling
+mod Gathering

@@ -1,6 +1,6 @@
 -- The table into which rows are read. Assumes nothing.
-use Rattle.std.proofs.Common.{◌≡◌, ℕ, ◌+◌, ◌-◌, ◌<◌, ◌≤◌, List, [], ◌∷◌, ◌++◌, length, take, drop, set, Some, None, Ok, Err, Option, Result, sym, ap, ◌∙◌, arith}
-use Rattle.std.proofs.lemmas.List.{take_more_set, length-take-le, drop-drop}
+use Rattle.std.proofs.Common.{◌≡◌, ℕ, ◌+◌, ◌-◌, ◌<◌, ◌≤◌, List, [], ◌∷◌, ◌++◌, length, take, set, Some, None, Ok, Err, Option, Result, sym, ap, ◌∙◌, arith}
+use Rattle.std.proofs.lemmas.List.{take_more_set, length-take-le}
 use Rattle.fault.specs.declared.Report.{Report}
 use Rattle.family.specs.declared.Family.{Family}
 use Rattle.family.specs.declared.Family.TheVariants.{Ipv4, Ipv6}
@@ -8,7 +8,7 @@ use Rattle.element.specs.Reading.{Seen}
 use Rattle.layout.specs.Expecting.{then_read}
 use Rattle.roa.specs.declared.RoaRow.{RoaRow}
 use Rattle.roa.specs.Rows.{row_in, row_step}
-use Rattle.roa.specs.Roas.{most_rows}
+use Rattle.roa.specs.Most.{most_rows}
 
 -- a row that was read is one row more
 stepped :
@@ -37,12 +37,6 @@ under base count h k = omega arith
 -- two families fill the table
 pub in_table : {X : Type 0} (base count : ℕ) (table : List X) → base ≤ 256 → count < base + 256 → length table ≡ 512 → count < length table
 in_table base count table h k size = omega arith
-
--- and past any number of more
-pub past_later : {X : Type 0} (n m : ℕ) (xs ys : List X) → n ≤ m → drop n xs ≡ drop n ys → drop m xs ≡ drop m ys
-past_later n m xs ys h e =
-    let k : m ≡ n + (m - n) = omega arith in
-    ap (λ (i : ℕ). drop i xs) k ∙ sym (drop-drop (m - n) n xs) ∙ ap (drop (m - n)) e ∙ drop-drop (m - n) n ys ∙ ap (λ (i : ℕ). drop i ys) (sym k)
 
 -- the table has room for two families
 pub most_rows_most : (b : Option Family) → most_rows b ≤ 512

@@ -4,7 +4,6 @@ use Rattle.fault.specs.declared.Rule.TheVariants.{Structure}
 use Rattle.fault.specs.declared.Layer.TheVariants.{Content}
 use Rattle.fault.specs.declared.Report.{Report}
 use Rattle.family.specs.declared.Family.{Family}
-use Rattle.family.specs.declared.Family.TheVariants.{Ipv4, Ipv6}
 use Rattle.element.specs.Reading.{Seen, Octets}
 use Rattle.layout.specs.Expecting.{broken, then_read, expect_of, end_of, inside}
 use Rattle.layout.specs.Rows.{rows_of}
@@ -67,9 +66,3 @@ roa_seen table r = record { asn = r.asn; rows = take r.count table }
 
 abbrev pub known_seen : List RoaRow → Option Family × ℕ → Known
 known_seen table p = record { family = p.0; rows = take p.1 table }
-
--- how many rows the table has at most, up to the last family: 256 of each
-abbrev pub most_rows : Option Family → ℕ
-most_rows None = 0
-most_rows (Some Ipv4) = 256
-most_rows (Some Ipv6) = 512

@@ -13,14 +13,18 @@ ghost use Rattle.prefixes.specs.Reading.{bit_count};
 ghost use Rattle.element.specs.Reading.{seen, octets_of};
 ghost use Rattle.layout.specs.Expecting.{told_by};
 ghost use Rattle.layout.specs.Rows.{rows_of};
-ghost use Rattle.roa.specs.Roas.{family_rows, family_step, nothing_known, families_of, body_of, roa_of, roa_seen, known_seen, most_rows};
+ghost use Rattle.roa.specs.Roas.{family_rows, family_step, nothing_known, families_of, body_of, roa_of, roa_seen, known_seen};
+ghost use Rattle.roa.specs.Most.{most_rows};
+ghost use Rattle.roa.specs.Gathering.{Gathered, gathered_in, gather_step};
 ghost use Rattle.roa.specs.Filling.{Filled, filled_in, fill_step};
 ghost use Rattle.roa.specs.Rows.{top_of, prefix_of, prefix_seen, prefix_at, max_of, max_at, row_of, row_in, row_step, some_rows};
 
+mod all_rows;
 mod family_rows;
 
+use all_rows::AllRows;
 use content::{read_bit_string, tag};
-use element::{Element, Part, read};
+use element::{Element, Part};
 use families::family_after;
 use family_rows::FamilyRows;
 use fault::Rule;
@@ -246,6 +250,25 @@ fn read_family(
     Ok((named, total))
 }
 
+impl<'a> Row<'a, ContentFault> for AllRows<'_> {
+    ghost Known = { Gathered };
+
+    ghost view = { gathered_in };
+
+    ghost step = { gather_step };
+
+    // Reads a family into the table.
+    fn take(self, family: &Element<'a>) -> Result<Self, ContentFault> {
+        let AllRows { last, count, table } = self;
+        let (named, total) = read_family(family, last, count, table)?;
+        Ok(AllRows {
+            last: Some(named),
+            count: total,
+            table,
+        })
+    }
+}
+
 // Reads families into the table, and answers the last and how many rows there are.
 fn read_each_family(
     content: Part<'_>,
@@ -254,17 +277,19 @@ fn read_each_family(
     ensures value { told_by content_report (known_seen table.new) result ≡ rows_of family_step nothing_known (octets_of content.entry) }
     ensures past { IfOk result (λ p. (p.1 ≤ 512) × (drop p.1 table.new ≡ drop p.1 table.old)) }
 {
-    let mut rest = content;
-    let mut before = None;
-    let mut count = 0;
-    while !rest.octets.is_empty() {
-        let (family, following) = read(rest)?;
-        let (named, total) = read_family(&family, before, count, table)?;
-        before = Some(named);
-        count = total;
-        rest = following;
-    }
-    Ok((before, count))
+    let start = AllRows {
+        last: None,
+        count: 0,
+        table,
+    };
+    let rows = layout::read_rows::<ContentFault, AllRows<'_>>(content, start)?;
+    // the table is taken out here too
+    let AllRows {
+        last,
+        count,
+        table: _table,
+    } = rows;
+    Ok((last, count))
 }
 
 // Reads families into the table, at least one, likewise.
