@@ -1,3 +1,4 @@
 pub mod Entries
 pub mod Sizes
 pub mod Deciding
+pub mod Lending

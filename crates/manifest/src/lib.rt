@@ -16,8 +16,11 @@ ghost use Rattle.repeats.specs.Reading.{unless_repeat};
 ghost use Rattle.file_faults.specs.Reports.{content_report};
 ghost use Rattle.element.specs.Reading.{octets_of};
 ghost use Rattle.layout.specs.Expecting.{told_by, part_of};
+ghost use Rattle.manifest.specs.Lending.{SameMemory};
 ghost use Rattle.manifest.specs.Steps.{Stepped, Ended};
 ghost use Rattle.manifest.specs.Manifests.{front_seen, name_of, opened_of, digest_of, named_twice, listed, entries_of, sha256, algorithm_of, head_and, head_of, manifest_seen, body_of, manifest_of};
+
+mod lent;
 
 use content::tag;
 use element::{Element, Part};
@@ -25,6 +28,7 @@ use fault::Rule;
 use fields::{gtime, number20, whole_bits};
 use file_faults::ContentFault;
 use layout::{LayerFault, end, expect};
+use lent::Lent;
 use moment::Moment;
 use names::is_bare;
 use repeats::{Spot, note, repeat_place};
@@ -105,12 +109,12 @@ fn read_digest<'a>(input: Part<'a>) -> Result<Part<'a>, ContentFault>
 // octets after the entry.
 fn take_entry<'a>(
     input: Part<'a>,
-    table: &mut [ManifestEntry<'a>],
-    spots: &mut [Spot<'a>],
+    lent: &mut Lent<'_, 'a>,
     count: usize,
 ) -> Result<Part<'a>, Stopped>
-    requires room { (count < length table.old) × (count < length spots.old) }
-    ensures value { Stepped (octets_of input.entry) count spots.old spots.new table.old table.new result }
+    requires room { count < 1490 }
+    ensures value { Stepped (octets_of input.entry) count lent.old.spots.now lent.new.spots.now lent.old.table.now lent.new.table.now result }
+    ensures memory { SameMemory lent.old lent.new }
 {
     let front = match read_front(input) {
         Ok(front) => front,
@@ -119,10 +123,15 @@ fn take_entry<'a>(
             fault,
         }),
     };
-    note(spots, count, front.name.content.octets, front.name.place);
+    note(
+        lent.spots,
+        count,
+        front.name.content.octets,
+        front.name.place,
+    );
     match read_digest(front.inner) {
         Ok(digest) => {
-            table[count] = ManifestEntry {
+            lent.table[count] = ManifestEntry {
                 name: front.name.content,
                 digest,
             };
@@ -135,21 +144,17 @@ fn take_entry<'a>(
     }
 }
 
-// Reads the entries of a content into the table and notes their names, up to the first fault. The table and the spots stay slices, and
-// no arrays of full size: a caller may lend longer ones, and what stands past the entries in them is told.
-fn note_entries<'a>(
-    content: Part<'a>,
-    table: &mut [ManifestEntry<'a>],
-    spots: &mut [Spot<'a>],
-) -> Result<usize, Stopped>
+// Reads the entries of a content into the table and notes their names, up to the first fault. The loop stays, and no row of `layout`
+// goes over the entries: which names were noted counts after a fault too, and a row's end does not tell that.
+fn note_entries<'a>(content: Part<'a>, lent: &mut Lent<'_, 'a>) -> Result<usize, Stopped>
     requires size { length content.octets.now ≤ 65535 }
-    requires room { (1490 ≤ length table.old) × (1490 ≤ length spots.old) }
-    ensures { Ended (octets_of content.entry) spots.new table.old table.new result }
+    ensures value { Ended (octets_of content.entry) lent.new.spots.now lent.old.table.now lent.new.table.now result }
+    ensures memory { SameMemory lent.old lent.new }
 {
     let mut rest = content;
     let mut count = 0;
     while !rest.octets.is_empty() {
-        rest = take_entry(rest, table, spots, count)?;
+        rest = take_entry(rest, lent, count)?;
         count += 1;
     }
     Ok(count)
@@ -169,19 +174,15 @@ fn unless_repeat(
 }
 
 // Reads the entries of a content into the table, all of different names, and answers how many there are.
-fn read_entries<'a>(
-    content: Part<'a>,
-    table: &mut [ManifestEntry<'a>],
-    spots: &mut [Spot<'a>],
-) -> Result<usize, ContentFault>
+fn read_entries<'a>(content: Part<'a>, lent: &mut Lent<'_, 'a>) -> Result<usize, ContentFault>
     requires size { length content.octets.now ≤ 65535 }
-    requires room { (1490 ≤ length table.old) × (1490 ≤ length spots.old) }
-    ensures value { told_by content_report (λ n. listed n table.new) result ≡ entries_of (octets_of content.entry) }
-    ensures others { IfOk result (λ n. (drop n table.new ≡ drop n table.old) × (n ≤ length table.new)) }
+    ensures value { told_by content_report (λ n. listed n lent.new.table.now) result ≡ entries_of (octets_of content.entry) }
+    ensures others { IfOk result (λ n. (drop n lent.new.table.now ≡ drop n lent.old.table.now) × (n ≤ length lent.new.table.now)) }
+    ensures memory { SameMemory lent.old lent.new }
 {
-    match note_entries(content, table, spots) {
-        Ok(count) => unless_repeat(repeat_place(spots, count), Ok(count)),
-        Err(stopped) => unless_repeat(repeat_place(spots, stopped.noted), Err(stopped.fault)),
+    match note_entries(content, lent) {
+        Ok(count) => unless_repeat(repeat_place(lent.spots, count), Ok(count)),
+        Err(stopped) => unless_repeat(repeat_place(lent.spots, stopped.noted), Err(stopped.fault)),
     }
 }
 
@@ -222,21 +223,30 @@ fn read_head<'a>(input: Part<'a>) -> Result<(Head<'a>, Part<'a>), ContentFault>
 }
 
 // The elements inside a manifest's SEQUENCE.
-fn read_body<'a>(
-    content: Part<'a>,
-    table: &mut [ManifestEntry<'a>],
-    spots: &mut [Spot<'a>],
-) -> Result<Manifest<'a>, ContentFault>
+fn read_body<'a>(content: Part<'a>, lent: &mut Lent<'_, 'a>) -> Result<Manifest<'a>, ContentFault>
     requires size { length content.octets.now ≤ 65535 }
-    requires room { (1490 ≤ length table.old) × (1490 ≤ length spots.old) }
-    ensures value { told_by content_report (manifest_seen table.new) result ≡ body_of (octets_of content.entry) }
-    ensures others { IfOk result (λ m. (drop m.count table.new ≡ drop m.count table.old) × (m.count ≤ length table.new)) }
+    ensures value { told_by content_report (manifest_seen lent.new.table.now) result ≡ body_of (octets_of content.entry) }
+    ensures others { IfOk result (λ m. (drop m.count lent.new.table.now ≡ drop m.count lent.old.table.now) × (m.count ≤ length lent.new.table.now)) }
+    ensures memory { SameMemory lent.old lent.new }
 {
     let (head, rest) = read_head(content)?;
     let (row, after) = expect::<ContentFault>(rest, tag::SEQUENCE)?;
-    let count = read_entries(row.content, table, spots)?;
+    let count = read_entries(row.content, lent)?;
     end::<ContentFault>(after)?;
     Ok(Manifest { head, count })
+}
+
+// Reads a manifest, with nothing after it.
+fn read_whole<'a>(input: Part<'a>, lent: &mut Lent<'_, 'a>) -> Result<Manifest<'a>, ContentFault>
+    requires size { length input.octets.now ≤ 65535 }
+    ensures value { told_by content_report (manifest_seen lent.new.table.now) result ≡ manifest_of (octets_of input.entry) }
+    ensures others { IfOk result (λ m. (drop m.count lent.new.table.now ≡ drop m.count lent.old.table.now) × (m.count ≤ length lent.new.table.now)) }
+    ensures memory { SameMemory lent.old lent.new }
+{
+    let (outer, after) = expect::<ContentFault>(input, tag::SEQUENCE)?;
+    let manifest = read_body(outer.content, lent)?;
+    end::<ContentFault>(after)?;
+    Ok(manifest)
 }
 
 // The manifest that some octets are: what it says, with its files in the table. Nothing may stand after it.
@@ -250,8 +260,6 @@ pub fn read_manifest<'a>(
     ensures value { told_by content_report (manifest_seen table.new) result ≡ manifest_of (octets_of input.entry) }
     ensures others { IfOk result (λ m. (drop m.count table.new ≡ drop m.count table.old) × (m.count ≤ length table.new)) }
 {
-    let (outer, after) = expect::<ContentFault>(input, tag::SEQUENCE)?;
-    let manifest = read_body(outer.content, table, spots)?;
-    end::<ContentFault>(after)?;
-    Ok(manifest)
+    let mut lent = Lent { table, spots };
+    read_whole(input, &mut lent)
 }

@@ -1,4 +1,4 @@
-use Rattle.std.proofs.Common.{ℕ, ◌+◌, ◌≤◌, List, [], ◌∷◌, ◌++◌, length, Err, sym, ap, subst, inl, inr, arith}
+use Rattle.std.proofs.Common.{ℕ, ◌+◌, ◌≤◌, List, [], ◌∷◌, ◌++◌, length, Err, sym, ap, subst, refl, inl, inr, arith}
 use Rattle.std.proofs.lemmas.Result.{err_from_is_err_and}
 use Rattle.element.specs.Reading.{Octets, octets_of}
 use Rattle.file_faults.specs.Reports.{content_report}
@@ -7,37 +7,40 @@ use Rattle.repeats.specs.declared.Spot.{Spot}
 use Rattle.manifest.specs.Manifests.{Begun, listed}
 use Rattle.manifest.specs.Steps.{NotedAs, Ended}
 use Rattle.manifest.proofs.Entries.{begun, finished, unread, named, more, room_left}
+use Rattle.manifest.proofs.Lending.{moved}
 use Rattle.manifest.proofs.Sizes.{entry_size}
 use Rattle.manifest.proofs.note_entries.Goals as goal
 
 pub loop-rest-init : goal.loop-rest-init
-loop-rest-init c = begun (octets_of c.args.content) c.args.spots.now c.args.table.now
+loop-rest-init c = (begun (octets_of c.args.content) c.args.lent.now.spots.now c.args.lent.now.table.now, (refl, refl))
 
 pub returns-in_err-rest : goal.returns-in_err-rest
 returns-in_err-rest c =
     let l = c.loop-rest in
     let q₀ = octets_of c.args.content in
     let q = octets_of l.rest in
-    let g = l.invariant in
-    let ts = c.args.table.now in
-    let w = room_left l.count _ _ (length l.spots) g.octets c.requires.size (subst (λ (m : ℕ). 1490 ≤ m) (sym c.loop-rest.auto.spots) c.requires.room.1) in
+    let g = l.invariant.0 in
+    let ts = c.args.lent.now.table.now in
+    let ss = l.lent.spots.now in
+    let us = l.lent.table.now in
+    let w = room_left l.count _ _ (length ss) g.octets c.requires.size l.lent.names in
     let some = some_left _ c.loop-rest-test.ensures in
-    let zs = c.take_entry.new.spots in
+    let zs = c.take_entry.new.lent.spots.now in
     let e = c.in_err-rest.field-0.0 in
-    let v : l.count + 1 ≤ length zs = subst (λ (m : ℕ). l.count + 1 ≤ m) (sym c.take_entry.auto.spots) w.1 in
+    let v : l.count + 1 ≤ length zs = (room_left l.count _ _ (length zs) g.octets c.requires.size c.take_entry.new.lent.names).1 in
     let p = err_from_is_err_and c.from_residual.result c.from_residual.ensures.1 in
-    let h : Ended q₀ zs ts c.take_entry.new.table (Err e) =
+    let h : Ended q₀ zs ts c.take_entry.new.lent.table.now (Err e) =
     elim c.in_err-rest.ensures.value [
       | inl u ↦
-          let r = unread q₀ ts q l.count l.spots l.table (content_report e.fault) w.0 some u.1 g in
-          let x : NotedAs q₀ e.noted l.spots g.parts (Err (content_report e.fault)) = subst (λ (n : ℕ). NotedAs q₀ n l.spots g.parts (Err (content_report e.fault))) (sym u.0) r in
+          let r = unread q₀ ts q l.count ss us (content_report e.fault) w.0 some u.1 g in
+          let x : NotedAs q₀ e.noted ss g.parts (Err (content_report e.fault)) = subst (λ (n : ℕ). NotedAs q₀ n ss g.parts (Err (content_report e.fault))) (sym u.0) r in
           (g.parts, subst (λ (ss : List Spot). NotedAs q₀ e.noted ss g.parts (Err (content_report e.fault))) (sym u.2) x)
       | inr b ↦
-          let r = named q₀ ts q l.count l.spots zs l.table (content_report e.fault) v some b.1 g in
-          let ps : List Begun = g.parts ++ (b.1.opened, listed l.count l.table) ∷ [] in
+          let r = named q₀ ts q l.count ss zs us (content_report e.fault) v some b.1 g in
+          let ps : List Begun = g.parts ++ (b.1.opened, listed l.count us) ∷ [] in
           (ps, subst (λ (n : ℕ). NotedAs q₀ n zs ps (Err (content_report e.fault))) (sym b.0) r)
     ] in
-    rw p.1 (rw p.2 h)
+    record { value = rw p.1 (rw p.2 h); memory = moved c.args.lent.now l.lent c.take_entry.new.lent l.invariant.1 c.in_err-rest.ensures.memory }
 
 pub loop-rest-smaller : goal.loop-rest-smaller
 loop-rest-smaller c =
@@ -53,14 +56,21 @@ loop-rest-preserved c =
     let z = octets_of c.in_ok-rest.rest in
     let t = c.in_ok-rest.ensures.value in
     let s = entry_size q t.opened t.digest t.opens t.digests in
-    let long : 44 + length z.octets ≤ length q.octets = subst (λ (o : Octets). 44 + length o.octets ≤ length q.octets) t.after_is s in
-    more (octets_of c.args.content) c.args.table.now q z l.count l.spots c.take_entry.new.spots l.table c.take_entry.new.table (some_left _ c.loop-rest-test.ensures) long t l.invariant
+    let long : 44 + length z.octets ≤ length q.octets = subst (λ (o : Octets). 44 + length o.octets ≤ length q.octets) t.after_is s in (
+      more (octets_of c.args.content) c.args.lent.now.table.now q z l.count l.lent.spots.now c.take_entry.new.lent.spots.now l.lent.table.now c.take_entry.new.lent.table.now (some_left _ c.loop-rest-test.ensures) long t l.invariant.0,
+      moved c.args.lent.now l.lent c.take_entry.new.lent l.invariant.1 c.in_ok-rest.ensures.memory,
+    )
 
 pub returns : goal.returns
 returns c =
     let l = c.loop-rest in
     let q = octets_of l.rest in
-    let g = l.invariant in
-    let w = room_left l.count _ _ (length l.spots) g.octets c.requires.size (subst (λ (m : ℕ). 1490 ≤ m) (sym c.loop-rest.auto.spots) c.requires.room.1) in
-    let v = room_left l.count _ _ (length l.table) g.octets c.requires.size (subst (λ (m : ℕ). 1490 ≤ m) (sym c.loop-rest.auto.table) c.requires.room.0) in
-    ((g.parts, (q, finished (octets_of c.args.content) c.args.table.now q l.count l.spots l.table w.0 (none_left _ c.loop-rest-test.ensures) g)), g.others, v.0)
+    let g = l.invariant.0 in
+    let ss = l.lent.spots.now in
+    let us = l.lent.table.now in
+    let w = room_left l.count _ _ (length ss) g.octets c.requires.size l.lent.names in
+    let v = room_left l.count _ _ (length us) g.octets c.requires.size l.lent.entries in
+    record {
+      value = ((g.parts, (q, finished (octets_of c.args.content) c.args.lent.now.table.now q l.count ss us w.0 (none_left _ c.loop-rest-test.ensures) g)), g.others, v.0);
+      memory = l.invariant.1;
+    }

@@ -1,12 +1,12 @@
-use Rattle.element.specs.Reading.{octets_of}
-use Rattle.layout.specs.Expecting.{part_of}
-use Rattle.manifest.proofs.Sizes.{content_size}
+use Rattle.std.proofs.Common.{rules}
+use Rattle.manifest.proofs.Lending.{seen_at, past_at}
 use Rattle.manifest.proofs.read_manifest.Goals as goal
 
-pub read_body-requires : goal.read_body-requires
-read_body-requires c =
-    let p = c.in_ok-outer in
+pub returns : goal.returns
+returns c =
+    let us = c.read_whole.new.lent.table.now in
+    let name = c.read_whole.ensures.memory.0 in
     record {
-      size = content_size 48 (octets_of c.args.input) (part_of (p.outer, p.after)) 65535 p.ensures.value c.requires.size;
-      room = c.requires.room;
+      value = seen_at c.read_whole.result us _ _ (search (rules, name)) c.read_whole.ensures.value;
+      others = past_at c.read_whole.result c.args.table.now us _ (search (rules, name)) c.read_whole.ensures.others;
     }

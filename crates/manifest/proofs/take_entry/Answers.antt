@@ -1,4 +1,4 @@
-use Rattle.std.proofs.Common.{sym, refl, inl, inr, arith}
+use Rattle.std.proofs.Common.{◌<◌, length, sym, refl, inl, inr, arith}
 use Rattle.std.proofs.lemmas.List.{drop-set-lt}
 use Rattle.element.specs.Reading.{octets_of}
 use Rattle.manifest.specs.Manifests.{front_seen}
@@ -7,8 +7,9 @@ use Rattle.manifest.proofs.take_entry.Goals as goal
 
 pub returns-in-Ok-read_digest : goal.returns-in-Ok-read_digest
 returns-in-Ok-read_digest c =
-    let ts = c.args.table.now in
+    let ts = c.args.lent.now.table.now in
     let n = c.args.count in
+    let room : n < length ts = omega (arith, c.requires.room, c.args.lent.now.entries) in
     record {
       value = record {
         opened = front_seen c.in-Ok.front;
@@ -17,13 +18,14 @@ returns-in-Ok-read_digest c =
         digests = sym c.in-Ok-read_digest.ensures.value;
         after_is = refl;
         notes = c.note.ensures.noted;
-        files = stored ts n _ c.requires.room.0;
+        files = stored ts n _ room;
         others = drop-set-lt _ ts n _ (omega arith);
       };
+      memory = (refl, refl);
     }
 
 pub returns-in-Err : goal.returns-in-Err
-returns-in-Err c = record { value = inl (refl, sym c.in-Err.ensures.value, refl) }
+returns-in-Err c = record { value = inl (refl, sym c.in-Err.ensures.value, refl); memory = (refl, refl) }
 
 pub returns-in-Err-read_digest : goal.returns-in-Err-read_digest
 returns-in-Err-read_digest c =
@@ -37,4 +39,5 @@ returns-in-Err-read_digest c =
           notes = c.note.ensures.noted;
         },
       );
+      memory = (refl, refl);
     }
