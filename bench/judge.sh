@@ -8,9 +8,9 @@ work=$(mktemp -d)
 trap 'rm -rf "$work"' EXIT
 mkdir -p "$work/crates/bench_judge/src"
 # the sources alone, without what checks left beside them
-(cd "$top/crates" && tar -cf - --exclude=out fault payload verdict) | tar -xf - -C "$work/crates"
+(cd "$top/crates" && tar -cf - --exclude=out fault family payload verdict) | tar -xf - -C "$work/crates"
 cp "$here/judge/main.rt.txt" "$work/crates/bench_judge/src/main.rt"
-printf 'fault:\npayload:\nverdict: payload fault\nbench_judge: payload verdict anyhow\n' > "$work/crates.txt"
+printf 'fault:\nfamily:\npayload: family\nverdict: family payload fault\nbench_judge: payload verdict anyhow\n' > "$work/crates.txt"
 cd "$work"
 git init -q .
 # what the run that follows the proof prints is not counted: only the program is wanted
