@@ -19,6 +19,7 @@ ghost use Rattle.payload.specs.Order.{cut, rank, lawful, Small};
 ghost use Rattle.payload.specs.Laws.{Ordered, InsertedRises, OneList};
 
 use std::cmp::Ordering;
+use std::fmt;
 
 mod list;
 
@@ -35,11 +36,22 @@ pub struct Prefix {
 }
 
 // A validated ROA payload: the AS may originate routes within the prefix, up to the maximum length.
-#[derive(Clone, Copy, PartialEq, Eq, PartialOrd, Ord, Debug)]
+#[derive(Clone, Copy, PartialEq, Eq, PartialOrd, Ord)]
 pub struct Payload {
     pub prefix: Prefix,
     pub max: u8,
     pub asn: u32,
+}
+
+// The AS first, as in the text of a list; the order of the fields is that of payloads.
+impl fmt::Debug for Payload {
+    fn fmt<W: fmt::Write>(&self, f: &mut fmt::Formatter<W>) -> fmt::Result {
+        f.debug_struct("Payload")
+            .field("asn", &self.asn)
+            .field("prefix", &self.prefix)
+            .field("max", &self.max)
+            .finish()
+    }
 }
 
 impl Prefix {
