@@ -21,7 +21,7 @@ ghost use Rattle.resources.specs.Meaning.{Tells, AddressesSay, AsnSays, addresse
 use content::tag;
 use element::{Element, Part};
 use entries::Resource;
-use families::family_after;
+use families::named_family_after;
 use family::Family;
 use fault::{Rule, SetFault};
 use layout::{LayerFault, end, expect, next};
@@ -155,7 +155,7 @@ fn next_family<'a>(
     ensures value { told_by set_report (λ h. (h.0, octets_of h.1, octets_of h.2)) result ≡ next_family before (octets_of input.entry) }
 {
     let (family, rest) = expect::<SetFault>(input, tag::SEQUENCE)?;
-    let (which, said) = family_after::<SetFault>(family.content, before)?;
+    let (which, said) = named_family_after::<SetFault>(family.content, before)?;
     Ok((which, said, rest))
 }
 

@@ -25,7 +25,7 @@ mod family_rows;
 use all_rows::AllRows;
 use content::{read_bit_string, tag};
 use element::{Element, Part};
-use families::family_after;
+use families::named_family_after;
 use family_rows::FamilyRows;
 use fault::Rule;
 use file_faults::ContentFault;
@@ -245,7 +245,7 @@ fn read_family(
     if family.tag != tag::SEQUENCE {
         return Err(ContentFault::own(Rule::Structure, family.place));
     }
-    let (named, rest) = family_after::<ContentFault>(family.content, before)?;
+    let (named, rest) = named_family_after::<ContentFault>(family.content, before)?;
     let total = read_family_rows(rest, named, count, table)?;
     Ok((named, total))
 }
