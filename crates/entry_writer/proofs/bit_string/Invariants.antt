@@ -1,7 +1,0 @@
-use Rattle.std.proofs.Common.{◌≡◌, ◌∷◌, take}
-use Rattle.family.specs.Widths.{width}
-use Rattle.prefixes.specs.Writing.{unused_for, bits_of}
-use Rattle.entry_writer.proofs.bit_string.Given as goal
-
-abbrev pub invariant-loop-i : goal.invariant-loop-i
-invariant-loop-i l = l.content ≡ unused_for l.bits ∷ take l.i (bits_of (width l.family) l.address l.bits)
