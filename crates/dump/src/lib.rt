@@ -6,9 +6,7 @@
 // the text longer than a fixed number of times its own length. It rests on `walk` and `content`.
 #![tactic(auto)]
 
-use content::{
-    BitString, Integer, Kind, read_bit_string, read_boolean, read_integer, read_oid, tag,
-};
+use content::{BitString, Integer, Kind, read_bit_string, read_boolean, read_integer, tag};
 use hex_text::push_octets;
 use moment::{Moment, generalized_time, utc_time};
 use std::alloc::{AllocError, Global};
@@ -77,11 +75,25 @@ fn number_of(value: &Integer<'_>) -> i128 {
         .fold(sign, |number, octet| (number << 8) | i128::from(*octet))
 }
 
-// One number of an OBJECT IDENTIFIER, or none where it is past 128 bits.
-fn arc(octets: &[u8]) -> Option<u128> {
-    octets.iter().try_fold(
+// Whether an octet is the last of a number of an OBJECT IDENTIFIER.
+fn ends_arc(octet: u8) -> bool {
+    octet < 128
+}
+
+// Whether no number of an OBJECT IDENTIFIER is past 128 bits; the octets are read up to the first that makes one so.
+fn arcs_fit(octets: &[u8]) -> bool {
+    let last = octets.iter().try_fold(0u128, |number, octet| {
+        let number = number.checked_mul(128)? | u128::from(octet % 128);
+        Some(if ends_arc(*octet) { 0 } else { number })
+    });
+    last.is_some()
+}
+
+// One number of an OBJECT IDENTIFIER, which is not past 128 bits.
+fn arc(octets: &[u8]) -> u128 {
+    octets.iter().fold(
         0u128,
-        |number, octet| Some(number.checked_mul(128)? | u128::from(octet % 128)),
+        |number, octet| (number << 7) | u128::from(octet % 128),
     )
 }
 
@@ -91,13 +103,18 @@ fn first_two(number: u128) -> (u128, u128) {
     (first, number - first * 40)
 }
 
-// An OBJECT IDENTIFIER in dotted form, or none where a number in it is past 128 bits.
+// An OBJECT IDENTIFIER in dotted form, or none where a number in it is past 128 bits. A last number that does not end
+// is left out.
 fn dotted(heap: Global, octets: &[u8]) -> Result<Option<String>, AllocError> {
+    if !arcs_fit(octets) {
+        return Ok(None);
+    }
     let mut text = String::new(heap);
-    for part in octets.split_inclusive(|octet| *octet < 128) {
-        let Some(number) = arc(part) else {
-            return Ok(None);
-        };
+    for part in octets.split_inclusive(|octet| ends_arc(*octet)) {
+        if !part.last().is_some_and(|octet| ends_arc(*octet)) {
+            break;
+        }
+        let number = arc(part);
         if text.is_empty() {
             let (first, second) = first_two(number);
             write!(text, "{first}.{second}")?;
@@ -292,11 +309,17 @@ impl Printer<'_> {
         Ok(())
     }
 
-    // Appends a time as the moment that it says, or its octets where it says none.
+    // Appends a time as the moment that it says, or its octets where it says none, which are always cut.
     fn push_time(&mut self, time: Option<Moment>, octets: &[u8]) -> Result<(), AllocError> {
         match time {
             Some(moment) => self.push_moment(moment),
-            None => self.push_hex(octets),
+            None => {
+                let mut cut = Printer {
+                    text: self.text,
+                    values: Values::Cut,
+                };
+                cut.push_hex(octets)
+            },
         }
     }
 
@@ -317,10 +340,7 @@ impl Printer<'_> {
                 Some(value) => self.push_bits(&value),
                 None => self.push_hex(octets),
             },
-            Kind::Oid => match read_oid(octets) {
-                Some(_) => self.push_oid(octets),
-                None => self.push_hex(octets),
-            },
+            Kind::Oid => self.push_oid(octets),
             Kind::Ia5String => self.push_text(octets),
             Kind::UtcTime => self.push_time(utc_time(octets), octets),
             Kind::GeneralizedTime => self.push_time(generalized_time(octets), octets),
