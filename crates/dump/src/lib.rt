@@ -67,12 +67,12 @@ fn tag_name(tag: u8) -> Option<&'static str> {
 }
 
 // The number that the octets of an INTEGER of at most 64 bits write.
-fn number_of(value: &Integer<'_>) -> i128 {
+fn number_of(value: &Integer<'_>) -> i64 {
     let sign = if value.negative { -1 } else { 0 };
     value
         .octets
         .iter()
-        .fold(sign, |number, octet| (number << 8) | i128::from(*octet))
+        .fold(sign, |number, octet| (number << 8) | i64::from(*octet))
 }
 
 // Whether an octet is the last of a number of an OBJECT IDENTIFIER.
@@ -272,15 +272,18 @@ impl Printer<'_> {
 
     // Appends a text in quotes, with every octet that is no printable ASCII as a backslash and two digits.
     fn push_text(&mut self, octets: &[u8]) -> Result<(), AllocError> {
-        self.text.push('"')?;
-        for octet in self.shown(octets) {
+        let shown = self.shown(octets);
+        let text = &mut *self.text;
+        text.push('"')?;
+        for octet in shown {
             if is_printable(*octet) && *octet != b'"' && *octet != b'\\' {
-                self.text.push(*octet as char)?;
+                text.push(*octet as char)?;
             } else {
-                write!(self.text, "\\{octet:02x}")?;
+                text.push('\\')?;
+                push_octets(text, &[*octet])?;
             }
         }
-        self.text.push('"')?;
+        text.push('"')?;
         self.push_count(octets)
     }
 
