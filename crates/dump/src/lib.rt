@@ -6,6 +6,8 @@
 // the text longer than a fixed number of times its own length. It rests on `walk` and `content`.
 #![tactic(auto)]
 
+ghost use Rattle.std.specs.Prelude.{◌≡◌};
+
 use content::{BitString, Integer, Kind, read_bit_string, read_boolean, read_integer, tag};
 use hex_text::push_octets;
 use moment::{Moment, generalized_time, utc_time};
@@ -35,6 +37,9 @@ pub struct Line<'a> {
 }
 
 impl<'a> From<&Node<'a>> for Line<'a> {
+    ghost from_gives = { λ node line. (line.place ≡ node.now.element.place) × (line.depth ≡ node.now.depth) × (line.tag ≡ node.now.element.tag)
+        × (line.octets.now ≡ node.now.element.content.octets.now) };
+
     fn from(node: &Node<'a>) -> Line<'a> {
         Line {
             place: node.element.place,
