@@ -7,7 +7,7 @@ use list_text::read_list;
 use point_text::PointText;
 use points::{Asn, V4, V6};
 use ranges::{MOST, Range};
-use running::calls::{answer, run_calls};
+use running::calls::{Answers, answer, run_calls};
 use running::files::{Failure, read_log};
 use running::lines::{Stop, find_octets};
 use std::alloc::AllocError;
@@ -78,8 +78,20 @@ fn run_call(rt: &HostRuntime, call: Call<'_>) -> Result<String, Stop> {
     }
 }
 
+// Answers the calls of a log, on lists too.
+#[derive(Clone, Copy)]
+struct Replay<'r> {
+    rt: &'r HostRuntime,
+}
+
+impl<'a> Answers<Call<'a>> for Replay<'_> {
+    fn answer(&self, call: Call<'a>) -> Result<String, Stop> {
+        run_call(self.rt, call)
+    }
+}
+
 // Runs the lines of a log in order, up to the first that is no call.
 pub fn run_replay(rt: &HostRuntime, path: &str) -> Result<(), Failure> {
     let log = read_log(rt, path)?;
-    run_calls(rt, log.as_slice(), |call: Call<'_>| run_call(rt, call))
+    run_calls(rt, log.as_slice(), &Replay { rt })
 }

@@ -71,33 +71,35 @@ pub fn answer(rt: &HostRuntime, call: Call<'_>) -> Result<String, Stop> {
     }
 }
 
+// Who answers the calls of a log.
+pub trait Answers<C> {
+    // Makes a call and gives its answer, or says why it is none.
+    fn answer(&self, call: C) -> Result<String, Stop>;
+}
+
 // Runs a line of a log, and appends its answer.
-fn run_line<'a, C: Calls<'a>, F: Fn(C) -> Result<String, Stop>>(
+fn run_line<'a, C: Calls<'a>, A: Answers<C>>(
     line: &'a [u8],
-    answer: &F,
+    answers: &A,
     text: &mut String,
-) -> Result<(), Stop>
-    requires { F.IsAlwaysCallable answer.now }
-{
+) -> Result<(), Stop> {
     if let Some(call) = read_line::<C>(line)? {
-        let answer = answer(call)?;
+        let answer = answers.answer(call)?;
         text.push_str(answer.as_str())?;
     }
     Ok(())
 }
 
 // Runs the lines of a log in order, up to the first that is no call, and prints the answers.
-pub fn run_calls<'a, C: Calls<'a>, F: Fn(C) -> Result<String, Stop>>(
+pub fn run_calls<'a, C: Calls<'a>, A: Answers<C>>(
     rt: &HostRuntime,
     log: &'a [u8],
-    answer: F,
-) -> Result<(), Failure>
-    requires { F.IsAlwaysCallable answer }
-{
+    answers: &A,
+) -> Result<(), Failure> {
     let mut text = String::new(rt.alloc());
     for (number, line) in log.split_inclusive(|c| *c == b'\n').enumerate() {
         let line = line.strip_suffix(b"\n").unwrap_or(line);
-        if let Err(stop) = run_line(line, &answer, &mut text) {
+        if let Err(stop) = run_line(line, answers, &mut text) {
             flush(rt, &mut text, true)?;
             return Err(tell_line(rt, number + 1, stop));
         }
