@@ -22,7 +22,7 @@ fn tell_stop(rt: &HostRuntime, error: WalkError) -> Failure {
 }
 
 // What a dump prints: a line for each element, or only how many there are.
-#[derive(Clone, Copy)]
+#[derive(Clone, Copy, PartialEq, Eq)]
 pub enum Detail {
     Lines(Values),
     Count,

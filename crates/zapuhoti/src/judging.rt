@@ -72,7 +72,7 @@ fn print_verdict(
     route: Route,
 ) -> Result<(), Failure> {
     match judge(list, route) {
-        Ok(verdict) => println!(rt; "{verdict}")?,
+        Ok(verdict) => println!(rt; "{}", verdict.word())?,
         Err(rule) => return Err(tell_refusal(rt, word, rule)),
     }
     let mut text = String::new(rt.alloc());
