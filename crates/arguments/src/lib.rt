@@ -181,12 +181,13 @@ impl<'a> Words<'a> {
         ensures lawful { IfOk result (λ a. LawfulArea a) }
     {
         let mut pieces = self.pieces;
-        let word = match pieces.next() {
-            None => return Ok(None),
-            Some([]) => return Err(Why::EmptyWord),
-            Some(word) => word,
+        let Some(word) = pieces.next() else {
+            return Ok(None);
         };
         self.pieces = pieces;
+        if let [] = word {
+            return Err(Why::EmptyWord);
+        }
         Ok(Some(read_number(word, u64::MAX).ok_or(Why::NoNumber)?))
     }
 
