@@ -44,7 +44,7 @@ pub fn same(a: &[u8], b: &[u8]) -> bool
 fn with_next(best: Option<usize>, before: Spot<'_>, spot: Spot<'_>) -> Option<usize>
     ensures { result ≡ with_next best before.entry spot.entry }
 {
-    if before.octets == spot.octets {
+    if same(before.octets, spot.octets) {
         return Some(lower(best, spot.index));
     }
     best
