@@ -35,7 +35,7 @@ fn find_digest(known: &[KnownDigest<'_>], octets: &[u8]) -> Option<[u8; 32]>
 fn find_verdict(signed: &[Claim<'_>], claim: Claim<'_>) -> bool
     ensures { result ≡ answer_on (λ k m g. some_verdict k m g (map claim_seen signed.now)) claim.entry }
 {
-    signed.contains(&claim)
+    signed.iter().any(|s| *s == claim)
 }
 
 impl<'a> Index<'a> {

@@ -1,11 +1,11 @@
 -- What a field or a record that was read says of the octets, and that octets after it change nothing. Assumes nothing.
-use Rattle.std.proofs.Common.{◌≡◌, ℕ, suc, ◌+◌, ◌<◌, ◌≤◌, Bool, true, false, cond, eqb, leb, List, [], ◌∷◌, ◌++◌, length, take, drop, Some, None, Option, sym, refl, ap, ◌∙◌, arith}
-use Rattle.std.proofs.lemmas.List.{length-append, length-drop, take-append-le, drop-append-le, get_or_append_left}
-use Rattle.std.proofs.lemmas.Bool.{le-leb, leb-true, cond-true, cond-false, ne_eqb}
+use Rattle.std.proofs.Common.{◌≡◌, ℕ, suc, ◌+◌, ◌-◌, ◌<◌, ◌≤◌, Bool, true, false, cond, eqb, leb, List, [], ◌∷◌, ◌++◌, length, get_or, take, drop, Some, None, Option, sym, refl, ap, ◌∙◌, arith}
+use Rattle.std.proofs.lemmas.List.{length-append, length-drop, take-append-le, drop-append-le, get_or_append_left, take_rest}
+use Rattle.std.proofs.lemmas.Bool.{le-leb, leb-true, cond-true, cond-false, ne_eqb, false≢true}
 use Rattle.std.specs.List.{IsFirstAndRest}
 use Rattle.record.specs.declared.Kind.TheVariants.{Digest, Verdict}
 use Rattle.record.specs.Views.{StandsForNone}
-use Rattle.record.specs.Format.{Entry, Known, Signed, Front, then_read, length_at, field_of, digest_only, digest_record, verdict_record, record_of}
+use Rattle.record.specs.Format.{Entry, Known, Signed, Front, then_read, length_at, field_of, digest_only, digest_record, verdict_record, record_by, record_of}
 
 pub some_same : {A : Type 0} {a b : A} → Some a ≡ Some b → a ≡ b
 some_same e = cc
@@ -122,6 +122,11 @@ record_extends (k ∷ s) t q e = by_kind (eqb k 0x44) (eqb k 0x59) e
     by_kind true c e = digest_extends s t q e
     by_kind false true e = verdict_extends s t q e
     by_kind false false e = absurd (none_some e)
+
+-- the record of some octets by the kind that stands first
+pub record_by_lem : (s : List ℕ) (k : ℕ) → false ≡ eqb (length s) 0 → get_or s 0 0 ≡ k → record_of s ≡ record_by k (take (length s - 1) (drop 1 s))
+record_by_lem [] k h e = absurd (false≢true h)
+record_by_lem (x ∷ s) k h e = ap (λ (n : ℕ). record_by n s) e ∙ ap (record_by k) (sym (take_rest (x ∷ s) 1))
 
 -- no record begins with an octet that stands for no kind
 pub no_record : (s : List ℕ) (k : ℕ) (t : List ℕ) → IsFirstAndRest s k t → StandsForNone k → record_of s ≡ None

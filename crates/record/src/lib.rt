@@ -25,6 +25,12 @@ pub enum Kind {
     Verdict = 0x59,
 }
 
+// The octet that stands for kind 44.
+pub const DIGEST: u8 = Kind::Digest as u8;
+
+// The octet that stands for kind 59.
+pub const VERDICT: u8 = Kind::Verdict as u8;
+
 // An octet that stands for no kind.
 #[derive(Clone, Copy, PartialEq, Eq, Debug)]
 pub struct UnknownKind;
