@@ -1,10 +1,10 @@
 -- What the parts of an entry are as octets. Assumes nothing.
-use Rattle.std.proofs.Common.{◌≡◌, ℕ, zero, suc, ◌+◌, ◌-◌, ◌*◌, ◌/◌, ◌%◌, ◌^◌, ◌<◌, ◌≤◌, true, false, w64, List, [], ◌∷◌, ◌++◌, length, take, drop, sym, refl, ap, ◌∙◌, append_assoc, pow-suc, pow_mono, inl, inr, arith, length-append}
+use Rattle.std.proofs.Common.{◌≡◌, ℕ, zero, suc, ◌+◌, ◌-◌, ◌*◌, ◌/◌, ◌%◌, ◌^◌, ◌<◌, ◌≤◌, true, false, w64, List, [], ◌∷◌, ◌++◌, length, get_or, take, drop, sym, refl, ap, ◌∙◌, append_assoc, pow-suc, pow_mono, inl, inr, arith, length-append}
 use Rattle.std.proofs.Math.Nat.{div-div-eq-div-mul}
 use Rattle.std.proofs.lemmas.Bool.{cases_lt}
 use Rattle.std.proofs.lemmas.Bool.Decides.{nat_tests}
-use Rattle.std.proofs.lemmas.List.{length-take, take_all}
-use Rattle.std.specs.Int.{Width, w128, byte_len, byte_at, bytes_high_first, to_be_bytes}
+use Rattle.std.proofs.lemmas.List.{length-take, take_more, take_all}
+use Rattle.std.specs.Int.{Width, byte_len, byte_at, bytes_high_first, to_be_bytes}
 use Rattle.family.specs.declared.Family.{Family}
 use Rattle.family.specs.Widths.{width}
 use Rattle.element.specs.Lengths.{encoded}
@@ -116,6 +116,13 @@ head_length t size old head p = ap length p ∙ length-append old (t ∷ (size �
 pub more_length : (u : ℕ) (head half : List ℕ) → half ≡ head ++ (u ∷ []) → length half ≡ length head + 1
 more_length u head half p = ap length p ∙ length-append head (u ∷ [])
 
+pub bits_length : (i : ℕ) (half text s : List ℕ) → text ≡ half ++ take i s → length text ≤ length half + i
+bits_length i half text s p =
+    let e = ap length p in
+    let l = length-append half (take i s) in
+    let t = length-take i s in
+    omega arith
+
 pub part_room : (k : ℕ) (head octets : List ℕ) → length head + k ≤ 40 → length head + length (take k octets) ≤ 40
 part_room k head octets h = let t = length-take k octets in omega arith
 
@@ -186,26 +193,28 @@ string_size v a n count h e =
 pub count_most : (v : Family) (n count : ℕ) → n ≤ width v → count ≡ octets_for n → count ≤ 16
 count_most v n count h e = let m = most v in omega arith
 
--- the first octets of a number of so many bits
-pub bits_are :
-    (v : Family) (a n count front x k : ℕ) (octets : List ℕ) → count ≡ octets_for n → front ≡ 16 - width v / 8 → x ≡ a - a % 2 ^ (width v - n)
-    → octets ≡ to_be_bytes w128 x → k ≡ count → take k (drop front octets) ≡ bits_of (width v) a n
-unfolding bits_of
-bits_are v a n count front x k octets e f g o h =
-    let m = most v in
-    let d : drop front octets ≡ octets_of (width v / 8) x = ap (drop front) o ∙ last_octets front (width v / 8) x w128 (omega arith) in
-    ap (take k) d ∙ ap (λ (y : ℕ). take k (octets_of (width v / 8) y)) g
-    ∙ ap (λ (y : ℕ). take y (octets_of (width v / 8) (a - a % 2 ^ (width v - n)))) (h ∙ e)
+-- one more octet of the bits
+pub bits_more :
+    (half s text after : List ℕ) (i x : ℕ) → text ≡ half ++ take i s → i < length s → x ≡ get_or s i 0 → after ≡ text ++ (x ∷ [])
+    → after ≡ half ++ take (i + 1) s
+bits_more half s text after i x e h f p =
+    p ∙ ap (λ (t : List ℕ). t ++ (x ∷ [])) e
+    ∙ append_assoc half (take i s) (x ∷ [])
+    ∙ ap (λ (y : ℕ). half ++ (take i s ++ (y ∷ []))) f
+    ∙ ap (λ (t : List ℕ). half ++ t) (sym (take_more s i 0 h))
 
 pub string_is :
-    (v : Family) (a n count u : ℕ) (old head half new o : List ℕ) → n ≤ width v → count ≡ octets_for n → u ≡ unused_for n
-    → o ≡ bits_of (width v) a n → head ≡ old ++ (3 ∷ ((1 + count) ∷ [])) → half ≡ head ++ (u ∷ []) → new ≡ half ++ o → new ≡ old ++ bit_text (width v) a n
+    (v : Family) (a n count u i : ℕ) (old head half new : List ℕ) → n ≤ width v → count ≡ octets_for n → u ≡ unused_for n → count ≤ i
+    → head ≡ old ++ (3 ∷ ((1 + count) ∷ [])) → half ≡ head ++ (u ∷ []) → new ≡ half ++ take i (bits_of (width v) a n)
+    → new ≡ old ++ bit_text (width v) a n
 unfolding bit_text
-string_is v a n count u old head half new o h e f g p q r =
+string_is v a n count u i old head half new h e f g p q r =
     let l = (has_octets v a n h).0 in
     let m = count_most v n count h e in
-    let c : new ≡ head ++ (u ∷ o) = r ∙ ap (λ (x : List ℕ). x ++ o) q ∙ append_assoc head (u ∷ []) o in
-    let b : new ≡ head ++ bits v a n = c ∙ ap (λ (x : List ℕ). head ++ (u ∷ x)) g ∙ ap (λ (y : ℕ). head ++ (y ∷ bits_of (width v) a n)) f in
+    let o = bits_of (width v) a n in
+    let t : take i o ≡ o = take_all i o (omega arith) in
+    let c : new ≡ head ++ (u ∷ o) = r ∙ ap (λ (x : List ℕ). half ++ x) t ∙ ap (λ (x : List ℕ). x ++ o) q ∙ append_assoc head (u ∷ []) o in
+    let b : new ≡ head ++ bits v a n = c ∙ ap (λ (y : ℕ). head ++ (y ∷ o)) f in
     element_is 3 (1 + count) old head new (bits v a n) (omega arith) (omega arith) p b
 
 pub prefix_is : (v : Family) (a z n : ℕ) → one_prefix (width v) a z ≡ true → n ≡ prefix_count (width v) a z → bit_text (width v) a n ≡ address_text (width v) a z

@@ -8,7 +8,7 @@
 // It rests on `entry_text` for the octets and for the law, and on `prefixes` for addresses as bit strings.
 #![tactic(auto)]
 
-ghost use Rattle.std.specs.Prelude.{◌≡◌, ℕ, ◌+◌, ◌-◌, ◌%◌, ◌^◌, ◌<◌, ◌≤◌, List, ◌∷◌, [], ◌++◌, length};
+ghost use Rattle.std.specs.Prelude.{◌≡◌, ℕ, ◌+◌, ◌<◌, ◌≤◌, List, ◌∷◌, [], ◌++◌, length};
 ghost use Rattle.family.specs.Widths.{width};
 ghost use Rattle.prefixes.specs.Writing.{low_count, high_count};
 ghost use Rattle.ranges.specs.declared.Range.{Range};
@@ -24,7 +24,9 @@ use content::tag;
 use entries::Resource;
 use family::Family;
 use points::{Asn, Point, V4, V6};
-use prefixes::{bit_count_high, bit_count_low, bit_count_prefix, is_prefix, octet_count, unused};
+use prefixes::{
+    bit_count_high, bit_count_low, bit_count_prefix, is_prefix, octet_at, octet_count, unused,
+};
 use ranges::Range;
 pub use text::Text;
 
@@ -145,30 +147,17 @@ fn bit_string_size(bits: u32, family: Family) -> usize
     3 + octet_count(bits)
 }
 
-// An address with zeros for all bits past the first `bits`.
-fn first_bits(address: u128, bits: u32, family: Family) -> u128
-    requires { bits ≤ width family }
-    ensures { result ≡ address - address % 2 ^ (width family - bits) }
-{
-    let rest = u32::from(family.width()) - bits;
-    if rest < 128 {
-        address - address % (1 << rest)
-    } else {
-        0
-    }
-}
-
 // Puts the first bits of an address as a BIT STRING at the end of a text.
 fn extend_bit_string(text: &mut Text, address: u128, bits: u32, family: Family)
     requires { (bits ≤ width family) × (length text.old + length (bit_text (width family) address bits) ≤ 40) }
     ensures { text.new ≡ text.old ++ bit_text (width family) address bits }
 {
     let count = octet_count(bits);
-    let front = 16 - usize::from(family.width() / 8);
-    let octets = first_bits(address, bits, family).to_be_bytes();
     extend_head(text, tag::BIT_STRING, 1 + count);
     text.extend(&[unused(bits)]);
-    text.extend(&octets[front..front + count]);
+    for i in 0..count {
+        text.extend(&[octet_at(address, bits, i, family)]);
+    }
 }
 
 // How many bits the ends of a range that is no prefix are written with: the first address without its zeros at the end, and the

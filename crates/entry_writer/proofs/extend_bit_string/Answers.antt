@@ -1,5 +1,8 @@
-use Rattle.std.proofs.Common.{◌-◌, ◌+◌, arith}
-use Rattle.entry_writer.proofs.Written.{head_length, part_room, string_size, count_most, bits_are, string_is, more_length}
+use Rattle.std.proofs.Common.{◌+◌, sym, append-nil, arith}
+use Rattle.family.specs.Widths.{width}
+use Rattle.prefixes.specs.Writing.{bits_of}
+use Rattle.prefixes.proofs.Laws.{has_octets}
+use Rattle.entry_writer.proofs.Written.{head_length, more_length, string_size, count_most, bits_length, bits_more, string_is}
 use Rattle.entry_writer.proofs.extend_bit_string.Goals as goal
 
 pub extend_head-requires : goal.extend_head-requires
@@ -14,21 +17,25 @@ extend-requires c =
     let h = head_length 3 (1 + c.octet_count-count.result) c.args.text.now c.extend_head.new.text c.extend_head.ensures in
     omega (arith, n, h, c.requires.1)
 
-pub extend-requires-2 : goal.extend-requires-2
-extend-requires-2 c =
+pub loop-i-init : goal.loop-i-init
+loop-i-init c = sym (append-nil c.extend.new.self)
+
+pub extend-requires-in-loop-i : goal.extend-requires-in-loop-i
+extend-requires-in-loop-i c =
     let n = string_size c.args.family c.args.address c.args.bits c.octet_count-count.result c.requires.0 c.octet_count-count.ensures in
     let h = head_length 3 (1 + c.octet_count-count.result) c.args.text.now c.extend_head.new.text c.extend_head.ensures in
     let l = more_length c.unused.result c.extend_head.new.text c.extend.new.self c.extend.ensures in
-    let front = 16 - c.from-front.result in
-    part_room (front + c.octet_count-count.result - front) c.extend.new.self _ (omega (arith, n, h, l, c.requires.1))
+    let t = bits_length c.loop-i.i c.extend.new.self c.loop-i.text _ c.loop-i.invariant in
+    omega (arith, n, h, l, t, c.loop-i-test.true, c.requires.1)
+
+pub loop-i-preserved : goal.loop-i-preserved
+loop-i-preserved c =
+    let n = (has_octets c.args.family c.args.address c.args.bits c.requires.0).0 in
+    bits_more c.extend.new.self (bits_of (width c.args.family) c.args.address c.args.bits) c.loop-i.text _ c.loop-i.i c.octet_at.result
+    c.loop-i.invariant (omega (arith, n, c.loop-i-test.true, c.octet_count-count.ensures)) c.octet_at.ensures c.extend-in-loop-i.ensures
 
 pub returns : goal.returns
 returns c =
-    let count = c.octet_count-count.result in
-    let front = 16 - c.from-front.result in
-    string_is c.args.family c.args.address c.args.bits count c.unused.result
-    c.args.text.now c.extend_head.new.text c.extend.new.self c.extend-2.new.self _ c.requires.0 c.octet_count-count.ensures c.unused.ensures
-    (bits_are c.args.family c.args.address c.args.bits count front c.first_bits.result (front + count - front) c.to_be_bytes-octets.result
-    c.octet_count-count.ensures (omega (arith, c.from-front.ensures, c.width.ensures.value)) c.first_bits.ensures
-    c.to_be_bytes-octets.ensures (omega arith))
-    c.extend_head.ensures c.extend.ensures c.extend-2.ensures
+    string_is c.args.family c.args.address c.args.bits c.octet_count-count.result c.unused.result c.loop-i.i
+    c.args.text.now c.extend_head.new.text c.extend.new.self c.loop-i.text c.requires.0 c.octet_count-count.ensures c.unused.ensures
+    (omega (arith, c.loop-i-test.false)) c.extend_head.ensures c.extend.ensures c.loop-i.invariant
