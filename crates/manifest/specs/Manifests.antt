@@ -14,6 +14,7 @@ use Rattle.layout.specs.Expecting.{broken, then_read, expect_of, end_of, inside}
 use Rattle.fields.specs.Fields.{number20_of, gtime_of, whole_bits_of}
 use Rattle.repeats.specs.Reading.{Reader, tested}
 use Rattle.names.specs.Tests.{is_bare}
+use Rattle.manifest.specs.declared.Located.{Located}
 use Rattle.manifest.specs.declared.ManifestEntry.{ManifestEntry}
 use Rattle.manifest.specs.declared.Front.{Front}
 use Rattle.manifest.specs.declared.Head.{Head}
@@ -36,8 +37,11 @@ pub record Opened : Type 0 where
 abbrev pub front_seen : Front → Opened
 front_seen f = record { name = seen f.name; inner = octets_of f.inner; after = octets_of f.after }
 
+abbrev pub located_of : Located → Octets
+located_of l = record { octets = l.octets.now; place = l.place }
+
 abbrev pub listed_of : ManifestEntry → Listed
-listed_of e = record { name = octets_of e.name; digest = octets_of e.digest }
+listed_of e = record { name = located_of e.name; digest = located_of e.digest }
 
 -- a bare name, and the octets after it
 abbrev pub name_of : Octets → Result (Seen × Octets) Report

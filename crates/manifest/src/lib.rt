@@ -10,15 +10,15 @@
 // `names` and `layout` for the single elements.
 #![tactic(auto)]
 
-ghost use Rattle.std.specs.Prelude.{◌≡◌, ◌+◌, ◌<◌, ◌≤◌, length, drop, IfOk};
+ghost use Rattle.std.specs.Prelude.{◌≡◌, ◌+◌, ◌<◌, ◌≤◌, All, length, take, drop, IfOk};
 ghost use Rattle.std.specs.Str.{bytes_eq};
 ghost use Rattle.repeats.specs.Reading.{unless_repeat};
 ghost use Rattle.file_faults.specs.Reports.{content_report};
 ghost use Rattle.element.specs.Reading.{octets_of};
 ghost use Rattle.layout.specs.Expecting.{told_by, part_of};
-ghost use Rattle.manifest.specs.Lending.{SameMemory};
+ghost use Rattle.manifest.specs.Lending.{SameMemory, PlacedEntry, StaysPlaced};
 ghost use Rattle.manifest.specs.Steps.{Stepped, Ended};
-ghost use Rattle.manifest.specs.Manifests.{front_seen, name_of, opened_of, digest_of, named_twice, listed, entries_of, sha256, algorithm_of, head_and, head_of, manifest_seen, body_of, manifest_of};
+ghost use Rattle.manifest.specs.Manifests.{located_of, front_seen, name_of, opened_of, digest_of, named_twice, listed, entries_of, sha256, algorithm_of, head_and, head_of, manifest_seen, body_of, manifest_of};
 
 mod lent;
 
@@ -36,11 +36,30 @@ use repeats::{Spot, note, repeat_place};
 // The most entries that a manifest of 65,535 octets can have, and one that is cut short: an entry takes 44 octets.
 pub const MOST_ENTRIES: usize = 1_490;
 
+// Some octets with an offset. Unlike that of a `Part`, it may be any, even one with which their end passes 2^64: so a caller
+// fills a table with what he likes.
+#[derive(Clone, Copy)]
+pub struct Located<'a> {
+    pub octets: &'a [u8],
+    pub place: usize,
+}
+
+impl<'a> From<Part<'a>> for Located<'a> {
+    ghost from_gives = { λ part located. located_of located ≡ octets_of part };
+
+    fn from(part: Part<'a>) -> Located<'a> {
+        Located {
+            octets: part.octets,
+            place: part.place,
+        }
+    }
+}
+
 // What a manifest says of a file: its bare name and its digest.
 #[derive(Clone, Copy)]
 pub struct ManifestEntry<'a> {
-    pub name: Part<'a>,
-    pub digest: Part<'a>,
+    pub name: Located<'a>,
+    pub digest: Located<'a>,
 }
 
 // What stands in a manifest before its files: its number, when it was issued and when the next is due.
@@ -114,6 +133,8 @@ fn take_entry<'a>(
 ) -> Result<Part<'a>, Stopped>
     requires room { count < 1490 }
     ensures value { Stepped (octets_of input.entry) count lent.old.spots.now lent.new.spots.now lent.old.table.now lent.new.table.now result }
+    ensures placed { IfOk result (λ _. All PlacedEntry (take count lent.old.table.now) → All PlacedEntry (take (count + 1) lent.new.table.now)) }
+    ensures kept { StaysPlaced lent.old.table.now lent.new.table.now }
     ensures memory { SameMemory lent.old lent.new }
 {
     let front = match read_front(input) {
@@ -132,8 +153,8 @@ fn take_entry<'a>(
     match read_digest(front.inner) {
         Ok(digest) => {
             lent.table[count] = ManifestEntry {
-                name: front.name.content,
-                digest,
+                name: front.name.content.into(),
+                digest: digest.into(),
             };
             Ok(front.after)
         },
@@ -149,6 +170,8 @@ fn take_entry<'a>(
 fn note_entries<'a>(content: Part<'a>, lent: &mut Lent<'_, 'a>) -> Result<usize, Stopped>
     requires size { length content.octets.now ≤ 65535 }
     ensures value { Ended (octets_of content.entry) lent.new.spots.now lent.old.table.now lent.new.table.now result }
+    ensures placed { IfOk result (λ n. All PlacedEntry (take n lent.new.table.now)) }
+    ensures kept { StaysPlaced lent.old.table.now lent.new.table.now }
     ensures memory { SameMemory lent.old lent.new }
 {
     let mut rest = content;
@@ -178,6 +201,8 @@ fn read_entries<'a>(content: Part<'a>, lent: &mut Lent<'_, 'a>) -> Result<usize,
     requires size { length content.octets.now ≤ 65535 }
     ensures value { told_by content_report (λ n. listed n lent.new.table.now) result ≡ entries_of (octets_of content.entry) }
     ensures others { IfOk result (λ n. (drop n lent.new.table.now ≡ drop n lent.old.table.now) × (n ≤ length lent.new.table.now)) }
+    ensures placed { IfOk result (λ n. All PlacedEntry (take n lent.new.table.now)) }
+    ensures kept { StaysPlaced lent.old.table.now lent.new.table.now }
     ensures memory { SameMemory lent.old lent.new }
 {
     match note_entries(content, lent) {
@@ -227,6 +252,8 @@ fn read_body<'a>(content: Part<'a>, lent: &mut Lent<'_, 'a>) -> Result<Manifest<
     requires size { length content.octets.now ≤ 65535 }
     ensures value { told_by content_report (manifest_seen lent.new.table.now) result ≡ body_of (octets_of content.entry) }
     ensures others { IfOk result (λ m. (drop m.count lent.new.table.now ≡ drop m.count lent.old.table.now) × (m.count ≤ length lent.new.table.now)) }
+    ensures placed { IfOk result (λ m. All PlacedEntry (take m.count lent.new.table.now)) }
+    ensures kept { StaysPlaced lent.old.table.now lent.new.table.now }
     ensures memory { SameMemory lent.old lent.new }
 {
     let (head, rest) = read_head(content)?;
@@ -241,6 +268,8 @@ fn read_whole<'a>(input: Part<'a>, lent: &mut Lent<'_, 'a>) -> Result<Manifest<'
     requires size { length input.octets.now ≤ 65535 }
     ensures value { told_by content_report (manifest_seen lent.new.table.now) result ≡ manifest_of (octets_of input.entry) }
     ensures others { IfOk result (λ m. (drop m.count lent.new.table.now ≡ drop m.count lent.old.table.now) × (m.count ≤ length lent.new.table.now)) }
+    ensures placed { IfOk result (λ m. All PlacedEntry (take m.count lent.new.table.now)) }
+    ensures kept { StaysPlaced lent.old.table.now lent.new.table.now }
     ensures memory { SameMemory lent.old lent.new }
 {
     let (outer, after) = expect::<ContentFault>(input, tag::SEQUENCE)?;
@@ -259,6 +288,8 @@ pub fn read_manifest<'a>(
     requires room { (1490 ≤ length table.old) × (1490 ≤ length spots.old) }
     ensures value { told_by content_report (manifest_seen table.new) result ≡ manifest_of (octets_of input.entry) }
     ensures others { IfOk result (λ m. (drop m.count table.new ≡ drop m.count table.old) × (m.count ≤ length table.new)) }
+    ensures placed { IfOk result (λ m. All PlacedEntry (take m.count table.new)) }
+    ensures kept { StaysPlaced table.old table.new }
 {
     let mut lent = Lent { table, spots };
     read_whole(input, &mut lent)

@@ -1,9 +1,11 @@
 use Rattle.std.proofs.Common.{ℕ, ◌+◌, ◌≤◌, List, [], ◌∷◌, ◌++◌, length, Err, sym, ap, subst, refl, inl, inr, arith}
+use Rattle.std.proofs.lemmas.List.Elements.{All-nil}
 use Rattle.std.proofs.lemmas.Result.{err_from_is_err_and}
 use Rattle.element.specs.Reading.{Octets, octets_of}
 use Rattle.file_faults.specs.Reports.{content_report}
 use Rattle.layout.proofs.Rows.{some_left, none_left}
 use Rattle.repeats.specs.declared.Spot.{Spot}
+use Rattle.manifest.specs.Lending.{PlacedEntry}
 use Rattle.manifest.specs.Manifests.{Begun, listed}
 use Rattle.manifest.specs.Steps.{NotedAs, Ended}
 use Rattle.manifest.proofs.Entries.{begun, finished, unread, named, more, room_left}
@@ -12,7 +14,7 @@ use Rattle.manifest.proofs.Sizes.{entry_size}
 use Rattle.manifest.proofs.note_entries.Goals as goal
 
 pub loop-rest-init : goal.loop-rest-init
-loop-rest-init c = (begun (octets_of c.args.content) c.args.lent.now.spots.now c.args.lent.now.table.now, (refl, refl))
+loop-rest-init c = (begun (octets_of c.args.content) c.args.lent.now.spots.now c.args.lent.now.table.now, (refl, refl), All-nil PlacedEntry, λ h. h)
 
 pub returns-in_err-rest : goal.returns-in_err-rest
 returns-in_err-rest c =
@@ -40,7 +42,12 @@ returns-in_err-rest c =
           let ps : List Begun = g.parts ++ (b.1.opened, listed l.count us) ∷ [] in
           (ps, subst (λ (n : ℕ). NotedAs q₀ n zs ps (Err (content_report e.fault))) (sym b.0) r)
     ] in
-    record { value = rw p.1 (rw p.2 h); memory = moved c.args.lent.now l.lent c.take_entry.new.lent l.invariant.1 c.in_err-rest.ensures.memory }
+    record {
+      value = rw p.1 (rw p.2 h);
+      placed = rw p.1 tt;
+      kept = λ h. c.in_err-rest.ensures.kept (l.invariant.3 h);
+      memory = moved c.args.lent.now l.lent c.take_entry.new.lent l.invariant.1 c.in_err-rest.ensures.memory;
+    }
 
 pub loop-rest-smaller : goal.loop-rest-smaller
 loop-rest-smaller c =
@@ -59,6 +66,8 @@ loop-rest-preserved c =
     let long : 44 + length z.octets ≤ length q.octets = subst (λ (o : Octets). 44 + length o.octets ≤ length q.octets) t.after_is s in (
       more (octets_of c.args.content) c.args.lent.now.table.now q z l.count l.lent.spots.now c.take_entry.new.lent.spots.now l.lent.table.now c.take_entry.new.lent.table.now (some_left _ c.loop-rest-test.ensures) long t l.invariant.0,
       moved c.args.lent.now l.lent c.take_entry.new.lent l.invariant.1 c.in_ok-rest.ensures.memory,
+      c.in_ok-rest.ensures.placed l.invariant.2,
+      λ h. c.in_ok-rest.ensures.kept (l.invariant.3 h),
     )
 
 pub returns : goal.returns
@@ -72,5 +81,7 @@ returns c =
     let v = room_left l.count _ _ (length us) g.octets c.requires.size l.lent.entries in
     record {
       value = ((g.parts, (q, finished (octets_of c.args.content) c.args.lent.now.table.now q l.count ss us w.0 (none_left _ c.loop-rest-test.ensures) g)), g.others, v.0);
+      placed = l.invariant.2;
+      kept = l.invariant.3;
       memory = l.invariant.1;
     }
