@@ -135,16 +135,22 @@ at_ok q b x e =
       t.2,
     )
 
--- a family that stands there is read
+-- of a family that stands there, the element is read, and then the name and what follows it
+pub at_parts :
+    (g : Family) (b : Option Family) (q p after : Octets) (f : FamilyAt g q p after) → follows b g ≡ true
+    → (expect_of Set 48 q ≡ Ok (f.family, after)) × (family_after Set b (inside f.family) ≡ Ok (g, p))
+at_parts g b q p after f past =
+    let i : family_named f.name.content ≡ Some g = ap family_named f.names ∙ names_family g in (
+      expect-is Set 48 q f.family after f.first f.tagged,
+      then_at _ (expect-is Set 4 (inside f.family) f.name p f.named f.octets)
+          ∙ ap (in_order Set b f.name.place p) i
+          ∙ cond-true (follows b g) _ _ past,
+    )
+
+-- so the family is read
 pub at-is :
     (g : Family) (b : Option Family) (q p after : Octets) → FamilyAt g q p after → follows b g ≡ true → next_family b q ≡ Ok (g, p, after)
-at-is g b q p after f past =
-    let i : family_named f.name.content ≡ Some g = ap family_named f.names ∙ names_family g in
-    let named : family_after Set b (inside f.family) ≡ Ok (g, p) =
-    then_at _ (expect-is Set 4 (inside f.family) f.name p f.named f.octets)
-    ∙ ap (in_order Set b f.name.place p) i
-    ∙ cond-true (follows b g) _ _ past in
-    then_at _ (expect-is Set 48 q f.family after f.first f.tagged) ∙ then_at _ named
+at-is g b q p after f past = let r = at_parts g b q p after f past in then_at _ r.0 ∙ then_at _ r.1
 
 no_more_by : (b : Bool) (q : Octets) → b ≡ eqb (length q.octets) 0 → Ok tt ≡ cond b (Ok tt) (further q) → Ended q
 no_more_by true q i e = eqb-true _ _ (sym i)
