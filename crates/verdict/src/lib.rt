@@ -58,7 +58,9 @@ fn covers(p: Payload, route: Prefix) -> bool
     ensures { result ≡ covers p route }
 {
     let length = p.prefix.length;
-    length <= route.length && p.prefix.cut(length) == route.cut(length)
+    p.prefix.family == route.family
+        && length <= route.length
+        && p.prefix.cut(length) == route.cut(length)
 }
 
 // Whether the payload allows a route that it covers to have this length and this origin.
