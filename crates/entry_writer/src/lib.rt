@@ -1,10 +1,10 @@
 // One entry of a list of resources, written into an area: for addresses a prefix or a range, for AS numbers a number or a range.
 //
 // A `WrittenResource` is a kind of points whose ranges are written; `V4`, `V6` and `Asn` are such kinds, with one text for both
-// widths of addresses. `entry_of` puts the entry of a range together as a `Text`, 40 octets at most, and `content_size` counts the
-// octets of its content without that. `entry_size` answers how many octets the entry has, and `write_entry` writes them at a place
-// of an area that has room for them, and answers the place after them; all else in the area stays. The law of the trait says that
-// an entry reads back as the range that it was written for, that a range has one encoding, and that this has at most 40 octets.
+// widths of addresses. `entry_of` puts the entry of a range together as a `Text`, 40 octets at most, and `entry_size` counts its
+// octets without that. `write_entry` writes them at a place of an area that has room for them, and answers the place after them;
+// all else in the area stays. The law of the trait says that an entry reads back as the range that it was written for, that a
+// range has one encoding, and that this has at most 40 octets.
 // It rests on `entry_text` for the octets and for the law, and on `prefixes` for addresses as bit strings.
 #![tactic(auto)]
 
@@ -39,17 +39,9 @@ pub trait WrittenResource: Resource {
     fn entry_of(range: Range<Self>) -> Text
         ensures { result ≡ text range };
 
-    // How many octets the content of the entry of a range has, without its tag and its length.
-    fn content_size(range: Range<Self>) -> usize
-        ensures value { 2 + result ≡ length (text range) }
-        ensures most { result ≤ 38 };
-
     // How many octets the entry of a range has.
-    final fn entry_size(range: Range<Self>) -> usize
-        ensures { result ≡ length (text range) }
-    {
-        2 + Self::content_size(range)
-    }
+    fn entry_size(range: Range<Self>) -> usize
+        ensures { result ≡ length (text range) };
 
     // Writes the entry of a range at a place, and answers the place after it.
     final fn write_entry(range: Range<Self>, area: &mut [u8], at: usize) -> usize
@@ -212,11 +204,10 @@ impl WrittenResource for Asn {
         numbers(range.first.number, range.last.number)
     }
 
-    fn content_size(range: Range<Asn>) -> usize
-        ensures value { 2 + result ≡ length (asn_text range) }
-        ensures most { result ≤ 38 }
+    fn entry_size(range: Range<Asn>) -> usize
+        ensures { result ≡ length (asn_text range) }
     {
-        numbers_size(range.first.number, range.last.number)
+        2 + numbers_size(range.first.number, range.last.number)
     }
 }
 
@@ -233,11 +224,10 @@ impl WrittenResource for V4 {
         addresses(first, last, Family::Ipv4)
     }
 
-    fn content_size(range: Range<V4>) -> usize
-        ensures value { 2 + result ≡ length (v4_text range) }
-        ensures most { result ≤ 38 }
+    fn entry_size(range: Range<V4>) -> usize
+        ensures { result ≡ length (v4_text range) }
     {
-        addresses_size(
+        2 + addresses_size(
             u128::from(range.first.word),
             u128::from(range.last.word),
             Family::Ipv4,
@@ -258,11 +248,10 @@ impl WrittenResource for V6 {
         addresses(first, last, Family::Ipv6)
     }
 
-    fn content_size(range: Range<V6>) -> usize
-        ensures value { 2 + result ≡ length (v6_text range) }
-        ensures most { result ≤ 38 }
+    fn entry_size(range: Range<V6>) -> usize
+        ensures { result ≡ length (v6_text range) }
     {
-        addresses_size(
+        2 + addresses_size(
             u128::from(range.first),
             u128::from(range.last),
             Family::Ipv6,
