@@ -201,18 +201,20 @@ low_below w o h l f =
     omega (arith, low_number w o, m, e)
 
 pub low-answer :
-    (w : ℕ) (o : List ℕ) (u a : ℕ) → w % 8 ≡ 0 → true ≡ readable w o u → a ≡ low_of w o → a < 2 ^ w
+    (w : ℕ) (o : List ℕ) (u a : ℕ) → w % 8 ≡ 0 → true ≡ readable w o u → (length o ≤ w / 8 → a ≡ low_of w o) → a < 2 ^ w
     → (Some a ≡ low_end w o u) × LowEnd w o u a
-low-answer w o u a h t e l =
+low-answer w o u a h t f l =
     let r = (readable_decides w o u).0 (sym t) in
+    let e = f (octets_fit w o u h r) in
     (ap Some e ∙ sym (cond-true (readable w o u) (Some (low_of w o)) None (sym t)), subst (LowEnd w o u) (sym e) (low_stands w o u h r (subst (λ x. x < 2 ^ w) e l)))
 
 pub high-answer :
-    (w : ℕ) (o : List ℕ) (u a k m : ℕ) → w % 8 ≡ 0 → true ≡ readable w o u → a ≡ low_of w o → a < 2 ^ w
+    (w : ℕ) (o : List ℕ) (u a k m : ℕ) → w % 8 ≡ 0 → true ≡ readable w o u → (length o ≤ w / 8 → a ≡ low_of w o) → a < 2 ^ w
     → k ≡ w - 8 * length o + u → m + 1 ≡ 2 ^ k → (Some (a + m) ≡ high_end w o u) × HighEnd w o u (a + m)
-high-answer w o u a k m h t e l p q =
+high-answer w o u a k m h t f l p q =
     let r = (readable_decides w o u).0 (sym t) in
     let fit = octets_fit w o u h r in
+    let e = f fit in
     let g : k ≡ w - bit_count o u = omega (arith, after_bits w o u h r) in
     let n : m + 1 ≡ 2 ^ (w - bit_count o u) = q ∙ ap (λ x. 2 ^ x) g in
     let s : a + m ≡ high_of w o u = omega arith in

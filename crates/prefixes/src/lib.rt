@@ -6,8 +6,8 @@
 // `is_prefix` tells the ranges that are one prefix, and `bit_count_prefix` how many bits these are written with;
 // `bit_count_low` and `bit_count_high` give the fewest bits that the ends of another range are written with, and `octet_count`,
 // `unused` and `octet_at` the bit string of so many bits of an address. What is written is read back, no range has two bit
-// strings, and the last bit tells the fewest. No call asks anything of its caller, and all rests on binary and base 256
-// digits alone, as the files of specs/ state them.
+// strings, and the last bit tells the fewest. No call asks anything of its caller. All rests on binary and base 256 digits, as the
+// files of specs/ state them, and on what `content` calls a bit string.
 #![tactic(auto)]
 
 ghost use Rattle.std.specs.Prelude.{◌≡◌, ◌+◌, ◌-◌, ◌*◌, ◌/◌, ◌%◌, ◌^◌, ◌<◌, ◌≤◌, true, ◌++◌, length, replicate, IfSome, Decides, MatchOption, ◌==◌, slice_index};

@@ -12,7 +12,7 @@ answer c =
     let v = c.args.family in
     let e = c.padded.ensures in
     high-answer (width v) c.args.bits.octets.now c.args.bits.unused c.padded.result _ c.ones.result (whole v)
-    c.if-not-is_readable.ensures e.value e.bound (omega arith) c.ones.ensures
+    c.if-not-is_readable.ensures (λ _. e.value) e.bound (omega arith) c.ones.ensures
 
 pub overflow_add-result : goal.overflow_add-result
 overflow_add-result c = omega (arith, below128 c.args.family (c.padded.result + c.ones.result) (answer c).1.below)
