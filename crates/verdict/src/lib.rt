@@ -53,7 +53,8 @@ pub struct Route {
     pub origin: Option<u32>,
 }
 
-// Whether the route lies within the payload's prefix.
+// Whether the route lies within the payload's prefix. The last test says all of it but the lengths; the family is asked for before,
+// since no prefix has to be cut for a payload of the other one.
 fn covers(p: Payload, route: Prefix) -> bool
     ensures { result ≡ covers p route }
 {
