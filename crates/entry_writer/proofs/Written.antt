@@ -72,8 +72,11 @@ low_part zero m size n e = let f : m ≡ size = omega arith in ap (λ (x : ℕ).
 low_part (suc j) zero size n e = absurd (omega arith)
 low_part (suc j) (suc m) size n e = low_part j m size n (omega arith)
 
-last_octets : (j size n : ℕ) (w : Width) → byte_len w ≡ j + size → drop j (to_be_bytes w n) ≡ octets_of size n
-last_octets j size n w e = low_part j (byte_len w) size n e ∙ high_first size n
+low_octets : (j size n : ℕ) (w : Width) → byte_len w ≡ j + size → drop j (to_be_bytes w n) ≡ octets_of size n
+low_octets j size n w e = low_part j (byte_len w) size n e ∙ high_first size n
+
+pub last_octets : (size n : ℕ) → size ≤ 8 → drop (8 - size) (to_be_bytes w64 n) ≡ octets_of size n
+last_octets size n h = low_octets (8 - size) size n w64 (omega arith)
 
 -- ---- elements
 
@@ -156,7 +159,7 @@ unfolding integer_text
 integer_is n m size k octets old head new e f s most room p q =
     let l = length_octets_lem size n in
     let o : octets ≡ to_be_bytes w64 n = e ∙ ap (to_be_bytes w64) f in
-    let d : drop (8 - size) octets ≡ octets_of size n = ap (drop (8 - size)) o ∙ last_octets (8 - size) size n w64 (omega arith) in
+    let d : drop (8 - size) octets ≡ octets_of size n = ap (drop (8 - size)) o ∙ last_octets size n (omega arith) in
     let c : take k (drop (8 - size) octets) ≡ octets_of size n = ap (take k) d ∙ take_all k (octets_of size n) (omega arith) in
     element_is 2 size old head new (octets_of size n) (omega arith) (omega arith) p (q ∙ ap (λ (x : List ℕ). head ++ x) c)
     ∙ ap (λ (x : ℕ). old ++ encoded 2 (octets_of x n)) s
@@ -202,6 +205,11 @@ bits_more half s text after i x e h f p =
     ∙ append_assoc half (take i s) (x ∷ [])
     ∙ ap (λ (y : ℕ). half ++ (take i s ++ (y ∷ []))) f
     ∙ ap (λ (t : List ℕ). half ++ t) (sym (take_more s i 0 h))
+
+-- all the bits, after how many of the last octet are none
+pub bits_all : (w a n i : ℕ) (content : List ℕ) → content ≡ unused_for n ∷ take i (bits_of w a n) → length (bits_of w a n) ≤ i → encoded 3 content ≡ bit_text w a n
+unfolding bit_text
+bits_all w a n i content e h = ap (encoded 3) (e ∙ ap (λ (t : List ℕ). unused_for n ∷ t) (take_all i (bits_of w a n) h))
 
 pub string_is :
     (v : Family) (a n count u i : ℕ) (old head half new : List ℕ) → n ≤ width v → count ≡ octets_for n → u ≡ unused_for n → count ≤ i

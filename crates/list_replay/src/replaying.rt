@@ -7,7 +7,7 @@ use list_text::read_list;
 use point_text::PointText;
 use points::{Asn, V4, V6};
 use ranges::{MOST, Range};
-use running::calls::{Answers, answer, run_calls};
+use running::calls::{Answers, answer, answer_calls};
 use running::files::{Failure, read_log};
 use running::lines::{Stop, find_octets};
 use std::alloc::AllocError;
@@ -93,5 +93,5 @@ impl<'a> Answers<Call<'a>> for Replay<'_> {
 // Runs the lines of a log in order, up to the first that is no call.
 pub fn run_replay(rt: &HostRuntime, path: &str) -> Result<(), Failure> {
     let log = read_log(rt, path)?;
-    run_calls(rt, log.as_slice(), &Replay { rt })
+    answer_calls(rt, log.as_slice(), &Replay { rt })
 }

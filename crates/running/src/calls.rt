@@ -78,7 +78,7 @@ pub trait Answers<C> {
 }
 
 // Runs a line of a log, and appends its answer.
-fn run_line<'a, C: Calls<'a>, A: Answers<C>>(
+fn answer_line<'a, C: Calls<'a>, A: Answers<C>>(
     line: &'a [u8],
     answers: &A,
     text: &mut String,
@@ -91,7 +91,7 @@ fn run_line<'a, C: Calls<'a>, A: Answers<C>>(
 }
 
 // Runs the lines of a log in order, up to the first that is no call, and prints the answers.
-pub fn run_calls<'a, C: Calls<'a>, A: Answers<C>>(
+pub fn answer_calls<'a, C: Calls<'a>, A: Answers<C>>(
     rt: &HostRuntime,
     log: &'a [u8],
     answers: &A,
@@ -99,7 +99,43 @@ pub fn run_calls<'a, C: Calls<'a>, A: Answers<C>>(
     let mut text = String::new(rt.alloc());
     for (number, line) in log.split_inclusive(|c| *c == b'\n').enumerate() {
         let line = line.strip_suffix(b"\n").unwrap_or(line);
-        if let Err(stop) = run_line(line, answers, &mut text) {
+        if let Err(stop) = answer_line(line, answers, &mut text) {
+            flush(rt, &mut text, true)?;
+            return Err(tell_line(rt, number + 1, stop));
+        }
+        flush(rt, &mut text, false)?;
+    }
+    flush(rt, &mut text, true)
+}
+
+// Runs a line of a log, and appends the answer of a closure.
+fn run_line<'a, C: Calls<'a>, F: Fn(C) -> Result<String, Stop>>(
+    line: &'a [u8],
+    answer: &F,
+    text: &mut String,
+) -> Result<(), Stop>
+    requires { F.IsAlwaysCallable answer.now }
+{
+    if let Some(call) = read_line::<C>(line)? {
+        let answer = answer(call)?;
+        text.push_str(answer.as_str())?;
+    }
+    Ok(())
+}
+
+// Runs the lines of a log in order, up to the first that is no call, and prints the answers that a closure gives. The closure has to be callable at
+// any call. A type that holds it cannot keep that so that it may still be called, and so cannot answer for `answer_calls`: the loop stands here again.
+pub fn run_calls<'a, C: Calls<'a>, F: Fn(C) -> Result<String, Stop>>(
+    rt: &HostRuntime,
+    log: &'a [u8],
+    answer: F,
+) -> Result<(), Failure>
+    requires { F.IsAlwaysCallable answer }
+{
+    let mut text = String::new(rt.alloc());
+    for (number, line) in log.split_inclusive(|c| *c == b'\n').enumerate() {
+        let line = line.strip_suffix(b"\n").unwrap_or(line);
+        if let Err(stop) = run_line(line, &answer, &mut text) {
             flush(rt, &mut text, true)?;
             return Err(tell_line(rt, number + 1, stop));
         }

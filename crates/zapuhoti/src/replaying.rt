@@ -1,6 +1,6 @@
 // `zapuhoti replay`: the calls of a log, and the answer of each.
 use log_lines::Call;
-use running::calls::{Answers, answer, run_calls};
+use running::calls::{Answers, answer, answer_calls};
 use running::files::{Failure, read_log};
 use running::lines::Stop;
 
@@ -19,5 +19,5 @@ impl<'a> Answers<Call<'a>> for Replay<'_> {
 // Runs the lines of a log in order, up to the first that is no call.
 pub fn run_replay(rt: &HostRuntime, path: &str) -> Result<(), Failure> {
     let log = read_log(rt, path)?;
-    run_calls(rt, log.as_slice(), &Replay { rt })
+    answer_calls(rt, log.as_slice(), &Replay { rt })
 }
